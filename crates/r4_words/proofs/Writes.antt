@@ -1,0 +1,50 @@
+-- How the digits of a number begin and go on.
+use Rattle.std.proofs.Common.{◌≡◌, ◌==◌, ◌<◌, ◌≤◌, ◌+◌, ◌/◌, ◌%◌, ◌^◌, ◌-◌, ℕ, zero, suc, Bool, true, false, cond, List, [], ◌∷◌, ◌++◌, map, length, refl, ap, sym, ◌∙◌, arith, nat_lt}
+use Rattle.std.specs.Int.Digits.{digits_of}
+use Rattle.std.proofs.lemmas.Int.Digits.{digits_of_step, length-digits_of-le}
+use Rattle.std.proofs.lemmas.List.{map-append, length-map}
+use Rattle.std.proofs.lemmas.Grind.{common_steps}
+use Rattle.r4_words.specs.Texts.{hex_of, dec_of, digit_of}
+
+pub hex_of_none : (digits value : ℕ) → digits ≡ 0 → hex_of digits value ≡ []
+unfolding hex_of
+hex_of_none zero value e = refl
+hex_of_none (suc digits) value e = absurd (omega arith)
+
+pub hex_of_more : (digits value : ℕ) → 0 < digits → hex_of digits value ≡ hex_of (digits - 1) (value / 16) ++ digit_of (value % 16) ∷ []
+unfolding hex_of
+hex_of_more zero value lt = absurd (omega arith)
+hex_of_more (suc digits) value lt = let same : digits ≡ suc digits - 1 = omega arith in ap (λ d. hex_of d (value / 16) ++ digit_of (value % 16) ∷ []) same
+
+positive : (value : ℕ) → 0 < value → dec_of value ≡ map (λ d. 48 + d) (digits_of 10 value)
+unfolding dec_of
+positive value lt = grind (arith, common_steps)
+
+low_digit : (value : ℕ) → value < 10 → 48 + value ≡ digit_of value
+low_digit value lt = grind (arith, common_steps)
+
+-- the text of the digits that precede the last one
+text_step : (value : ℕ) (before : List ℕ) → 0 < value → map (λ d. 48 + d) (digits_of 10 (value / 10)) ≡ before → dec_of value ≡ before ++ digit_of (value % 10) ∷ []
+text_step value before some is =
+    positive value some
+    ∙ ap (map (λ d. 48 + d)) (digits_of_step 10 value (omega arith) some)
+    ∙ map-append (λ d. 48 + d) (digits_of 10 (value / 10)) (value % 10 ∷ [])
+    ∙ ap (λ front. front ++ (48 + value % 10) ∷ []) is
+    ∙ ap (λ d. before ++ d ∷ []) (low_digit (value % 10) (omega arith))
+
+pub dec_of_small : (value : ℕ) → value < 10 → dec_of value ≡ digit_of (value % 10) ∷ []
+unfolding dec_of
+dec_of_small zero lt = refl
+dec_of_small (suc n) lt = let none : suc n / 10 ≡ 0 = omega arith in text_step (suc n) [] (omega arith) (ap (λ q. map (λ d. 48 + d) (digits_of 10 q)) none)
+
+pub dec_of_more : (value : ℕ) → 10 ≤ value → dec_of value ≡ dec_of (value / 10) ++ digit_of (value % 10) ∷ []
+dec_of_more value le = text_step value (dec_of (value / 10)) (omega arith) (sym (positive (value / 10) (omega arith)))
+
+-- a value of 64 bits has at most 20 digits
+pub length_dec_of : (value : ℕ) → value < 2 ^ 64 → length (dec_of value) ≤ 20
+unfolding dec_of
+length_dec_of zero lt = omega arith
+length_dec_of (suc n) lt =
+    let digits : length (digits_of 10 (suc n)) ≤ 20 = length-digits_of-le 10 20 (suc n) (omega arith) (omega arith) in
+    let some : dec_of (suc n) ≡ map (λ d. 48 + d) (digits_of 10 (suc n)) = positive (suc n) (omega arith) in
+    rw (some, length-map) digits

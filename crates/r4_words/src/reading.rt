@@ -1,0 +1,84 @@
+// Numbers read from texts.
+ghost use Rattle.std.specs.Prelude.{◌≡◌, ◌≢◌, ℕ, ◌<◌, ◌≤◌, ◌^◌, length, IfSome, IfNone, true};
+ghost use Rattle.std.specs.List.{list_all};
+ghost use Rattle.r4_words.specs.Texts as texts;
+
+// The value of the code of a digit.
+fn value_of_digit(code: u8) -> u8
+    requires { texts.is_hex_digit code ≡ true }
+    ensures value { result ≡ texts.value_of_digit code }
+    ensures small { result < 16 }
+    ensures decimal { texts.is_digit code ≡ true → result < 10 }
+{
+    if code <= b'9' { code - b'0' } else { code - 87 }
+}
+
+// Whether each byte is one of 0-9.
+fn are_digits(text: &[u8]) -> bool
+    ensures { result ≡ list_all texts.is_digit text.now }
+{
+    text.iter().all(|code| code.is_ascii_digit())
+}
+
+// Whether each byte is one of 0-9 and a-f.
+fn are_hex_digits(text: &[u8]) -> bool
+    ensures { result ≡ list_all texts.is_hex_digit text.now }
+{
+    text.iter().all(|code| matches!(code, b'0'..=b'9' | b'a'..=b'f'))
+}
+
+// The number of at most ten digits.
+fn dec_number(text: &[u8]) -> u64
+    requires short { length text.now ≤ 10 }
+    requires digits { list_all texts.is_digit text.now ≡ true }
+    ensures { result ≡ texts.number_of 10 text.now }
+{
+    let mut number = 0;
+    for code in text {
+        number = number * 10 + u64::from(*code - b'0');
+    }
+    number
+}
+
+// The number of at most sixteen hexadecimal digits.
+fn hex_number(text: &[u8]) -> u64
+    requires short { length text.now ≤ 16 }
+    requires digits { list_all texts.is_hex_digit text.now ≡ true }
+    ensures { result ≡ texts.number_of 16 text.now }
+{
+    let mut number = 0;
+    for code in text {
+        number = number * 16 + u64::from(value_of_digit(*code));
+    }
+    number
+}
+
+/// The number of a decimal text: `0`, or 1 to 10 digits without a leading zero, at most 4294967295.
+/// None for every other text.
+pub fn read_dec(text: &[u8]) -> Option<u32>
+    ensures value { result ≡ texts.read_dec text.now }
+    ensures some { IfSome result (λ n. text.now ≡ texts.dec_of n) }
+    ensures none { IfNone result ((n : ℕ) → n < 2 ^ 32 → text.now ≢ texts.dec_of n) }
+{
+    if text.is_empty() || text.len() > 10 || !are_digits(text) {
+        return None;
+    }
+    if text[0] == b'0' && text.len() > 1 {
+        return None;
+    }
+    u32::try_from(dec_number(text)).ok()
+}
+
+/// The number of a text of exactly so many hexadecimal digits in lower case. None for every other text.
+pub fn read_hex(text: &[u8], digits: usize) -> Option<u64>
+    requires { digits ≤ 16 }
+    ensures value { result ≡ texts.read_hex text.now digits }
+    ensures some { IfSome result (λ n. text.now ≡ texts.hex_of digits n) }
+    ensures none { IfNone result ((n : ℕ) → text.now ≢ texts.hex_of digits n) }
+    ensures fits { IfSome result (λ n. n < 16 ^ digits) }
+{
+    if text.len() != digits || !are_hex_digits(text) {
+        return None;
+    }
+    Some(hex_number(text))
+}

@@ -1,0 +1,67 @@
+// Numbers and texts written into a line of bounded room.
+ghost use Rattle.std.specs.Prelude.{◌≡◌, ℕ, ◌<◌, ◌≤◌, ◌+◌, ◌*◌, ◌/◌, ◌%◌, ◌^◌, ◌++◌, ◌∷◌, [], length};
+ghost use Rattle.arrayvec.specs.ArrayVec.{array_vec_len};
+ghost use Rattle.r4_words.specs.Texts.{digit_of, hex_of, dec_of};
+
+use arrayvec::ArrayVec;
+
+/// A line of text under construction, of at most 128 bytes.
+pub type Line = ArrayVec<u8, 128>;
+
+/// Appends a text.
+pub fn put_text(text: &[u8], line: &mut Line)
+    requires { array_vec_len line.old + length text.now ≤ 128 }
+    ensures items { line.new.items ≡ line.old.items ++ text.now }
+    ensures len { array_vec_len line.new ≡ array_vec_len line.old + length text.now }
+{
+    match line.try_extend_from_slice(text) {
+        Ok(()) => {}
+        Err(_) => unreachable!(),
+    }
+}
+
+fn digit(value: u64) -> u8
+    requires { value < 16 }
+    ensures { result ≡ digit_of value }
+{
+    if value < 10 {
+        b'0' + value as u8
+    } else {
+        87 + value as u8
+    }
+}
+
+/// Appends so many low hexadecimal digits of a value, in lower case and the high one first.
+#[tactic(auto, using(crate::proofs::Writes::hex_of_none, crate::proofs::Writes::hex_of_more, std::proofs::lemmas::Grind::common_steps))]
+pub fn put_hex(value: u64, digits: u32, line: &mut Line)
+    requires { array_vec_len line.old + digits ≤ 128 }
+    ensures items { line.new.items ≡ line.old.items ++ hex_of digits value }
+    ensures len { array_vec_len line.new ≡ array_vec_len line.old + digits }
+{
+    if digits > 0 {
+        put_hex(value / 16, digits - 1, line);
+        line.push(digit(value % 16));
+    }
+}
+
+#[tactic(auto, using(crate::proofs::Writes::dec_of_small, crate::proofs::Writes::dec_of_more, std::proofs::lemmas::Grind::common_steps))]
+fn push_dec(value: u64, line: &mut Line)
+    requires { array_vec_len line.old + length (dec_of value) ≤ 128 }
+    ensures items { line.new.items ≡ line.old.items ++ dec_of value }
+    ensures len { array_vec_len line.new ≡ array_vec_len line.old + length (dec_of value) }
+{
+    if value >= 10 {
+        push_dec(value / 10, line);
+    }
+    line.push(digit(value % 10));
+}
+
+/// Appends the decimal digits of a value, without a leading zero; `0` for 0.
+#[tactic(auto, using(crate::proofs::Writes::length_dec_of))]
+pub fn put_dec(value: u64, line: &mut Line)
+    requires { array_vec_len line.old + 20 ≤ 128 }
+    ensures items { line.new.items ≡ line.old.items ++ dec_of value }
+    ensures len { array_vec_len line.new ≤ array_vec_len line.old + 20 }
+{
+    push_dec(value, line);
+}
