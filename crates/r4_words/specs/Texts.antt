@@ -1,7 +1,7 @@
 -- Numbers as texts: lists of ASCII codes, hexadecimal of a fixed width and decimal without a leading zero.
 -- Writing (hex_of, dec_of) and reading (read_hex, read_dec) are defined apart, and are each other's inverse.
 -- Source: ASCII for the codes of the digits; the formats are those that Rust's std writes for {:0width$x} and {}.
-use Rattle.std.specs.Prelude.{◌≡◌, ◌≢◌, ℕ, zero, suc, ◌==◌, ◌+◌, ◌-◌, ◌*◌, ◌/◌, ◌%◌, ◌^◌, ◌<◌, Bool, ◌&&◌, ◌||◌, not, nat_lt, nat_le, List, [], ◌∷◌, ◌++◌, map, length, slice_index, Option, Some, None, if◌then◌else◌}
+use Rattle.std.specs.Prelude.{ℕ, zero, suc, ◌==◌, ◌+◌, ◌-◌, ◌*◌, ◌/◌, ◌%◌, ◌^◌, Bool, ◌&&◌, ◌||◌, not, nat_lt, nat_le, List, [], ◌∷◌, ◌++◌, map, length, slice_index, Option, Some, None, if◌then◌else◌}
 use Rattle.std.specs.Int.Digits.{digits_of}
 use Rattle.std.specs.List.{list_all}
 
@@ -16,7 +16,8 @@ hex_of (suc digits) value = hex_of digits (value / 16) ++ digit_of (value % 16) 
 
 -- the decimal digits of a value, the high one first and none of them a leading zero; "0" for 0
 unfoldable pub dec_of : ℕ → List ℕ
-dec_of value = if value == 0 then 48 ∷ [] else map (λ digit. 48 + digit) (digits_of 10 value)
+dec_of zero = 48 ∷ []
+dec_of (suc n) = map (λ digit. 48 + digit) (digits_of 10 (suc n))
 
 -- the code of 0-9
 abbrev pub is_digit : ℕ → Bool

@@ -15,9 +15,8 @@ mod writing;
 
 pub use fields::{field, sext32};
 pub use reading::{read_dec, read_hex};
-pub use writing::{put_dec, put_hex, put_text, Line};
-
 use std::alloc::AllocError;
+pub use writing::{Line, put_dec, put_hex, put_text};
 
 /// The error of want of memory.
 pub type Memory = AllocError;

@@ -24,7 +24,8 @@ fn are_digits(text: &[u8]) -> bool
 fn are_hex_digits(text: &[u8]) -> bool
     ensures { result ≡ list_all texts.is_hex_digit text.now }
 {
-    text.iter().all(|code| matches!(code, b'0'..=b'9' | b'a'..=b'f'))
+    text.iter()
+        .all(|code| matches!(code, b'0'..=b'9' | b'a'..=b'f'))
 }
 
 // The number of at most ten digits.
@@ -53,12 +54,8 @@ fn hex_number(text: &[u8]) -> u64
     number
 }
 
-/// The number of a decimal text: `0`, or 1 to 10 digits without a leading zero, at most 4294967295.
-/// None for every other text.
-pub fn read_dec(text: &[u8]) -> Option<u32>
-    ensures value { result ≡ texts.read_dec text.now }
-    ensures some { IfSome result (λ n. text.now ≡ texts.dec_of n) }
-    ensures none { IfNone result ((n : ℕ) → n < 2 ^ 32 → text.now ≢ texts.dec_of n) }
+fn dec_value(text: &[u8]) -> Option<u32>
+    ensures { result ≡ texts.read_dec text.now }
 {
     if text.is_empty() || text.len() > 10 || !are_digits(text) {
         return None;
@@ -69,16 +66,80 @@ pub fn read_dec(text: &[u8]) -> Option<u32>
     u32::try_from(dec_number(text)).ok()
 }
 
-/// The number of a text of exactly so many hexadecimal digits in lower case. None for every other text.
-pub fn read_hex(text: &[u8], digits: usize) -> Option<u64>
+fn hex_value(text: &[u8], digits: usize) -> Option<u64>
     requires { digits ≤ 16 }
-    ensures value { result ≡ texts.read_hex text.now digits }
-    ensures some { IfSome result (λ n. text.now ≡ texts.hex_of digits n) }
-    ensures none { IfNone result ((n : ℕ) → text.now ≢ texts.hex_of digits n) }
-    ensures fits { IfSome result (λ n. n < 16 ^ digits) }
+    ensures { result ≡ texts.read_hex text.now digits }
 {
     if text.len() != digits || !are_hex_digits(text) {
         return None;
     }
     Some(hex_number(text))
+}
+
+/// The number of a decimal text: `0`, or 1 to 10 digits without a leading zero, at most 4294967295.
+/// None for every other text.
+pub fn read_dec(text: &[u8]) -> Option<u32>
+    ensures value { result ≡ texts.read_dec text.now }
+    ensures some { IfSome result (λ n. text.now ≡ texts.dec_of n) }
+    ensures none { IfNone result ((n : ℕ) → n < 2 ^ 32 → text.now ≢ texts.dec_of n) }
+    ensures read_back { (n : ℕ) → n < 2 ^ 32 → text.now ≡ texts.dec_of n → result ≡ Some n }
+{
+    dec_value(text)
+}
+
+/// The number of a text of exactly so many hexadecimal digits, 0-9 and a-f. None for every other text.
+pub fn read_hex(text: &[u8], digits: usize) -> Option<u64>
+    requires { digits ≤ 16 }
+    ensures value { result ≡ texts.read_hex text.now digits }
+    ensures some { IfSome result (λ n. (text.now ≡ texts.hex_of digits n) × (n < 16 ^ digits)) }
+    ensures none { IfNone result ((n : ℕ) → text.now ≢ texts.hex_of digits n) }
+    ensures read_back { (n : ℕ) → n < 16 ^ digits → text.now ≡ texts.hex_of digits n → result ≡ Some n }
+{
+    hex_value(text, digits)
+}
+
+#[cfg(test)]
+mod tests {
+    use super::*;
+
+    #[test]
+    fn decimal_texts_are_read(rt: HostRuntime) {
+        let table: [(&[u8], Option<u32>); 14] = [
+            (b"0", Some(0)),
+            (b"7", Some(7)),
+            (b"1000", Some(1000)),
+            (b"4294967295", Some(4294967295)),
+            (b"4294967296", None),
+            (b"9999999999", None),
+            (b"10000000000", None),
+            (b"", None),
+            (b"007", None),
+            (b"00", None),
+            (b"+1", None),
+            (b"-1", None),
+            (b"1 ", None),
+            (b"0x1", None),
+        ];
+        for (text, number) in table {
+            assert_eq!(rt; read_dec(text), number);
+        }
+    }
+
+    #[test]
+    fn hexadecimal_texts_are_read(rt: HostRuntime) {
+        let table: [(&[u8], usize, Option<u64>); 9] = [
+            (b"f", 1, Some(15)),
+            (b"00000041", 8, Some(0x41)),
+            (b"80012000", 8, Some(0x80012000)),
+            (b"01fc00000", 9, Some(0x1fc00000)),
+            (b"ffffffffc0001000", 16, Some(0xffffffffc0001000)),
+            (b"0000004", 8, None),
+            (b"000000041", 8, None),
+            (b"8001200A", 8, None),
+            (b"8001200g", 8, None),
+        ];
+        for (text, digits, number) in table {
+            assert_eq!(rt; read_hex(text, digits), number);
+        }
+    }
 }

@@ -32,7 +32,7 @@ fn digit(value: u64) -> u8
 }
 
 /// Appends so many low hexadecimal digits of a value, in lower case and the high one first.
-#[tactic(auto, using(crate::proofs::Writes::hex_of_none, crate::proofs::Writes::hex_of_more, std::proofs::lemmas::Grind::common_steps))]
+#[tactic(auto, using(crate::proofs::Written::hex_of_none, crate::proofs::Written::hex_of_more, std::proofs::lemmas::Grind::common_steps))]
 pub fn put_hex(value: u64, digits: u32, line: &mut Line)
     requires { array_vec_len line.old + digits ≤ 128 }
     ensures items { line.new.items ≡ line.old.items ++ hex_of digits value }
@@ -44,7 +44,7 @@ pub fn put_hex(value: u64, digits: u32, line: &mut Line)
     }
 }
 
-#[tactic(auto, using(crate::proofs::Writes::dec_of_small, crate::proofs::Writes::dec_of_more, std::proofs::lemmas::Grind::common_steps))]
+#[tactic(auto, using(crate::proofs::Written::dec_of_small, crate::proofs::Written::dec_of_more, std::proofs::lemmas::Grind::common_steps))]
 fn push_dec(value: u64, line: &mut Line)
     requires { array_vec_len line.old + length (dec_of value) ≤ 128 }
     ensures items { line.new.items ≡ line.old.items ++ dec_of value }
@@ -57,11 +57,33 @@ fn push_dec(value: u64, line: &mut Line)
 }
 
 /// Appends the decimal digits of a value, without a leading zero; `0` for 0.
-#[tactic(auto, using(crate::proofs::Writes::length_dec_of))]
+#[tactic(auto, using(crate::proofs::Written::length_dec_of))]
 pub fn put_dec(value: u64, line: &mut Line)
     requires { array_vec_len line.old + 20 ≤ 128 }
     ensures items { line.new.items ≡ line.old.items ++ dec_of value }
     ensures len { array_vec_len line.new ≤ array_vec_len line.old + 20 }
 {
     push_dec(value, line);
+}
+
+#[cfg(test)]
+mod tests {
+    use super::*;
+
+    #[test]
+    fn a_line_of_texts_and_numbers(rt: HostRuntime) {
+        let mut line = Line::new();
+        put_text(b"ticks ", &mut line);
+        put_dec(10, &mut line);
+        put_text(b" halt ", &mut line);
+        put_hex(0x41, 8, &mut line);
+        put_text(b" ", &mut line);
+        put_hex(0xffffffffbf000000, 16, &mut line);
+        put_text(b" ", &mut line);
+        put_dec(u64::MAX, &mut line);
+        put_text(b" ", &mut line);
+        put_dec(0, &mut line);
+        let text: &[u8] = b"ticks 10 halt 00000041 ffffffffbf000000 18446744073709551615 0";
+        assert_eq!(rt; line.as_slice(), text);
+    }
 }

@@ -1,5 +1,5 @@
 -- How the digits of a number begin and go on.
-use Rattle.std.proofs.Common.{◌≡◌, ◌==◌, ◌<◌, ◌≤◌, ◌+◌, ◌/◌, ◌%◌, ◌^◌, ◌-◌, ℕ, zero, suc, Bool, true, false, cond, List, [], ◌∷◌, ◌++◌, map, length, refl, ap, sym, ◌∙◌, arith, nat_lt}
+use Rattle.std.proofs.Common.{◌≡◌, ◌<◌, ◌≤◌, ◌+◌, ◌/◌, ◌%◌, ◌^◌, ◌-◌, ℕ, zero, suc, List, [], ◌∷◌, ◌++◌, map, length, refl, ap, sym, ◌∙◌, arith}
 use Rattle.std.specs.Int.Digits.{digits_of}
 use Rattle.std.proofs.lemmas.Int.Digits.{digits_of_step, length-digits_of-le}
 use Rattle.std.proofs.lemmas.List.{map-append, length-map}
@@ -18,7 +18,8 @@ hex_of_more (suc digits) value lt = let same : digits ≡ suc digits - 1 = omega
 
 positive : (value : ℕ) → 0 < value → dec_of value ≡ map (λ d. 48 + d) (digits_of 10 value)
 unfolding dec_of
-positive value lt = grind (arith, common_steps)
+positive zero lt = absurd (omega arith)
+positive (suc n) lt = refl
 
 low_digit : (value : ℕ) → value < 10 → 48 + value ≡ digit_of value
 low_digit value lt = grind (arith, common_steps)
@@ -40,11 +41,15 @@ dec_of_small (suc n) lt = let none : suc n / 10 ≡ 0 = omega arith in text_step
 pub dec_of_more : (value : ℕ) → 10 ≤ value → dec_of value ≡ dec_of (value / 10) ++ digit_of (value % 10) ∷ []
 dec_of_more value le = text_step value (dec_of (value / 10)) (omega arith) (sym (positive (value / 10) (omega arith)))
 
+-- how many digits a value below a power of ten has
+pub length_dec_of_below : (count value : ℕ) → 0 < count → value < 10 ^ count → length (dec_of value) ≤ count
+unfolding dec_of
+length_dec_of_below count zero some lt = some
+length_dec_of_below count (suc n) some lt =
+    let digits : length (digits_of 10 (suc n)) ≤ count = length-digits_of-le 10 count (suc n) (omega arith) lt in
+    let is : dec_of (suc n) ≡ map (λ d. 48 + d) (digits_of 10 (suc n)) = positive (suc n) (omega arith) in
+    rw (is, length-map) digits
+
 -- a value of 64 bits has at most 20 digits
 pub length_dec_of : (value : ℕ) → value < 2 ^ 64 → length (dec_of value) ≤ 20
-unfolding dec_of
-length_dec_of zero lt = omega arith
-length_dec_of (suc n) lt =
-    let digits : length (digits_of 10 (suc n)) ≤ 20 = length-digits_of-le 10 20 (suc n) (omega arith) (omega arith) in
-    let some : dec_of (suc n) ≡ map (λ d. 48 + d) (digits_of 10 (suc n)) = positive (suc n) (omega arith) in
-    rw (some, length-map) digits
+length_dec_of value lt = length_dec_of_below 20 value (omega arith) (omega arith)
