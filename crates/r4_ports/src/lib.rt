@@ -2,7 +2,7 @@
 //!
 //! The program meets files and output through two traits alone. Each says what it tells of its content, and counts
 //! its faults: a call fails only where its count rose, so a failure of the program can be laid to the outside.
-//! Reading order: the faults and the traits here; `writing`, texts in pieces of at most 128 bytes; then four
+//! Reading order: the faults and the traits here; `pieces`, texts in pieces of at most 128 bytes; then four
 //! implementations in memory. `sure_shelf` and `sure_sink` never fail; `mem_shelf` and `mem_sink` fail by a list,
 //! for tests of every failure. The adapters to real files and streams stand in the program, not here.
 //!
@@ -13,8 +13,9 @@
 ghost use Rattle.std.specs.Prelude.{◌≡◌, ◌≤◌, List, ℕ, length, [], ◌∷◌, IfOk, OnOk, OnErr, IsErrOf, Option, None};
 ghost use Rattle.r4_ports.specs.Told.{Files, Call, fetch_of, put_of, Rose, HasCause, Appended, AppendedPrefix, Fetched, PutInto};
 
-pub mod writing;
+pub mod pieces;
 
+pub use pieces::{Line, finish, put_all, put_line};
 use r4_words::Memory;
 use std::alloc::Global;
 use thiserror::Error;

@@ -2,8 +2,8 @@
 //!
 //! A writer carries a flag `failed` beside its sink. Each of its parts writes nothing once the flag is set, so a
 //! writer is straight-line code, and each part promises `Puts` of its own text. The laws of
-//! `proofs/Writing.antt` join the parts' texts to the whole text, and `outcome` makes the writer's answer.
-ghost use Rattle.std.specs.Prelude.{◌≡◌, ◌++◌, length, take, drop, OnOk, OnErr, IsTrue};
+//! `proofs/Writing.antt` join the parts' texts to the whole text, and `finish` makes the writer's answer.
+ghost use Rattle.std.specs.Prelude.{◌≡◌, ◌≤◌, length, OnOk, OnErr, true, false};
 ghost use Rattle.r4_ports.specs.Told.{Appended, AppendedPrefix, HasCause};
 ghost use Rattle.r4_ports.specs.Writing.{Puts, stand};
 
@@ -46,7 +46,7 @@ pub fn put_all<K: Sink>(text: &[u8], out: &mut K, failed: &mut bool)
 }
 
 /// A writer's answer by its flag.
-pub fn outcome(failed: bool) -> Result<(), SinkFault>
+pub fn finish(failed: bool) -> Result<(), SinkFault>
     ensures ok { OnOk result (failed ≡ false) }
     ensures err { OnErr result (failed ≡ true) }
 {
