@@ -56,3 +56,14 @@ pub fn finish(failed: bool) -> Result<(), SinkFault>
         Ok(())
     }
 }
+
+/// Writes a text of any length.
+pub fn write_all<K: Sink>(text: &[u8], out: &mut K) -> Result<(), SinkFault>
+    ensures ok { OnOk result (Appended (K.written out.old) (K.written out.new) text.now) }
+    ensures err { OnErr result (AppendedPrefix (K.written out.old) (K.written out.new) text.now) }
+    ensures cause { HasCause (K.faults out.old) (K.faults out.new) result }
+{
+    let mut failed = false;
+    put_all(text, out, &mut failed);
+    finish(failed)
+}
