@@ -1,0 +1,162 @@
+// The RAM, seen as the list of its bytes, and the PROM's words.
+ghost use Rattle.std.specs.Prelude.{◌≡◌, ◌+◌, ◌*◌, ◌/◌, ◌%◌, ◌^◌, ◌<◌, ◌≤◌, List, ℕ, length, slice_index, slice_set, IfOk};
+ghost use Rattle.flat_ram.specs.Bytes as law;
+ghost use Rattle.flat_ram.specs.Map.{ram_size};
+
+use crate::big_endian;
+use crate::map::RAM_SIZE;
+use std::alloc::{AllocError, Global};
+use std::marker::Model;
+
+/// The words of the PROM, the first one at the reset vector.
+#[derive(Clone, Copy)]
+pub struct Prom {
+    pub words: [u32; 1024],
+}
+
+/// The 8388608 bytes of RAM.
+#[derive(Drop)]
+pub struct Ram {
+    bytes: Vec<u8>,
+}
+
+impl Model for Ram {
+    ghost use Rattle.std.specs.Prelude.{◌≡◌, List, ℕ, length};
+    ghost use Rattle.flat_ram.specs.Map.{ram_size};
+
+    ghost Value = { List ℕ };
+
+    ghost view = { λ ram. ram.bytes.items };
+
+    ghost invariant = { λ ram. length ram.bytes.items ≡ ram_size };
+}
+
+#[tactic(auto, unfolding(crate::specs::Bytes::zeros_of))]
+fn zeros(alloc: Global, count: usize) -> Result<Vec<u8>, AllocError>
+    ensures items { IfOk result (λ v. v.items ≡ law.zeros_of count) }
+    ensures len { IfOk result (λ v. length v.items ≡ count) }
+{
+    Ok(vec![in alloc; 0; count]?)
+}
+
+fn put_bytes(all: &mut [u8], at: usize, bytes: &[u8])
+    requires { at + length bytes.now ≤ length all.old }
+    ensures { all.new ≡ law.put_bytes all.old at bytes.now }
+{
+    all[at..at + bytes.len()].copy_from_slice(bytes);
+}
+
+#[tactic(auto, unfolding(crate::specs::Bytes::zeros_of))]
+fn put_zeros(all: &mut [u8], at: usize, count: usize)
+    requires { at + count ≤ length all.old }
+    ensures { all.new ≡ law.put_bytes all.old at (law.zeros_of count) }
+{
+    all[at..at + count].fill(0);
+}
+
+impl Ram {
+    /// RAM whose bytes are all zero.
+    pub fn new(alloc: Global) -> Result<Ram, AllocError>
+        ensures { IfOk result (λ ram. ram ≡ law.zeros_of ram_size) }
+    {
+        Ok(Ram {
+            bytes: zeros(alloc, RAM_SIZE as usize)?,
+        })
+    }
+
+    /// The number of bytes, which is always the same.
+    pub fn size(&self) -> u64
+        ensures value { result ≡ ram_size }
+        ensures whole { length self.now ≡ ram_size }
+    {
+        self.bytes.len() as u64
+    }
+
+    /// The byte at an address.
+    pub fn get(&self, pa: u64) -> u8
+        requires { pa < ram_size }
+        ensures { result ≡ slice_index self.now pa }
+    {
+        self.bytes[pa as usize]
+    }
+
+    /// Replaces the byte at an address.
+    pub fn set(&mut self, pa: u64, byte: u8)
+        requires { pa < ram_size }
+        ensures { self.new ≡ slice_set self.old pa byte }
+    {
+        self.bytes[pa as usize] = byte;
+    }
+
+    /// So many bytes from an address on.
+    pub fn bytes(&self, pa: u64, count: u64) -> &[u8]
+        requires { pa + count ≤ ram_size }
+        ensures value { result.now ≡ law.bytes_at self.now pa count }
+        ensures len { length result.now ≡ count }
+    {
+        &self.bytes[pa as usize..(pa + count) as usize]
+    }
+
+    /// The word at an address, the high byte first.
+    pub fn word(&self, pa: u64) -> u32
+        requires { pa + 4 ≤ ram_size }
+        ensures { result ≡ law.word_at self.now pa }
+    {
+        big_endian::word_at(&self.bytes, pa as usize)
+    }
+
+    /// Replaces the word at an address.
+    pub fn set_word(&mut self, pa: u64, word: u32)
+        requires { pa + 4 ≤ ram_size }
+        ensures { self.new ≡ law.put_bytes self.old pa (law.bytes_of word) }
+    {
+        put_bytes(&mut self.bytes, pa as usize, &word.to_be_bytes());
+    }
+
+    /// Replaces the bytes from an address on.
+    pub fn set_bytes(&mut self, pa: u64, bytes: &[u8])
+        requires { pa + length bytes.now ≤ ram_size }
+        ensures { self.new ≡ law.put_bytes self.old pa bytes.now }
+    {
+        put_bytes(&mut self.bytes, pa as usize, bytes);
+    }
+
+    /// Makes so many bytes zero from an address on.
+    pub fn clear(&mut self, pa: u64, count: u64)
+        requires { pa + count ≤ ram_size }
+        ensures { self.new ≡ law.put_bytes self.old pa (law.zeros_of count) }
+    {
+        put_zeros(&mut self.bytes, pa as usize, count as usize);
+    }
+}
+
+#[cfg(test)]
+mod tests {
+    use super::*;
+    use std::test::Fail;
+
+    #[test]
+    fn words_stand_high_byte_first(rt: HostRuntime) -> Result<(), Fail> {
+        let mut ram = Ram::new(rt.alloc())?;
+        assert_eq!(rt; ram.size(), 8388608);
+        assert_eq!(rt; ram.word(0x7ffffc), 0);
+        ram.set_word(0x7ffffc, 0xa0010000);
+        for (pa, byte) in [
+            (0x7ffffb, 0),
+            (0x7ffffc, 0xa0),
+            (0x7ffffd, 1),
+            (0x7ffffe, 0),
+            (0x7fffff, 0),
+        ] {
+            assert_eq!(rt; ram.get(pa), byte);
+        }
+        ram.set_bytes(0x7ffff8, &[1, 2, 3, 4, 5]);
+        assert_eq!(rt; ram.word(0x7ffffc), 0x05010000);
+        ram.set(0x7fffff, 9);
+        assert_eq!(rt; ram.word(0x7ffffc), 0x05010009);
+        ram.clear(0x7ffff9, 4);
+        let left: &[u8] = &[1, 0, 0, 0, 0, 1, 0, 9];
+        assert_eq!(rt; ram.bytes(0x7ffff8, 8), left);
+        Ok(())
+    }
+}
