@@ -4,8 +4,8 @@
 use Rattle.std.specs.Prelude.{ℕ, Bool, ◌==◌, ◌+◌, ◌-◌, ◌/◌, ◌%◌, ◌^◌, ◌&&◌, not, nat_le, slice_index, if◌then◌else◌}
 use Rattle.flat_ram.specs.Bytes.{word_at, bytes_of, put_bytes}
 use Rattle.flat_ram.specs.Map.{prom_base, device_base, spot_of}
-use Rattle.flat_ram.specs.declared.Spot.{Spot}
-use Rattle.flat_ram.specs.declared.Spot.TheVariants.{Ram, Prom, Device, Empty}
+use Rattle.flat_ram.specs.declared.map.Spot.{Spot}
+use Rattle.flat_ram.specs.declared.map.Spot.TheVariants.{Ram, Prom, Device, Empty}
 use Rattle.machine_core.specs.declared.address_map.Bus.{Bus}
 use Rattle.machine_core.specs.declared.talk.Access.{Access}
 use Rattle.machine_core.specs.declared.talk.Request.{Request}

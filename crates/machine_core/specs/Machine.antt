@@ -2,8 +2,9 @@
 use Rattle.std.specs.Prelude.{ℕ, List, []}
 use Rattle.flat_ram.specs.Bytes.{zeros_of}
 use Rattle.flat_ram.specs.Map.{ram_size}
-use Rattle.flat_ram.specs.declared.Prom.{Prom}
-use Rattle.elf_image.specs.Plain.{entry_of, loaded}
+use Rattle.flat_ram.specs.declared.memory.Prom.{Prom}
+use Rattle.elf_image.specs.Header.{entry_of}
+use Rattle.elf_image.specs.Loading.{loaded}
 use Rattle.machine_core.specs.declared.address_map.Bus.{Bus}
 use Rattle.machine_core.specs.declared.machine_state.Machine.{Machine}
 use Rattle.machine_core.specs.declared.ticking.Tick.{Tick}
