@@ -1,0 +1,34 @@
+-- The numbers and the lines of the statuses. Both are this project's own.
+use Rattle.std.specs.Prelude.{ℕ, List, ◌++◌, codes}
+use Rattle.r4_words.specs.Texts.{dec_of}
+use Rattle.machine_core.specs.declared.talk.Part.{Part}
+use Rattle.machine_core.specs.declared.talk.Part.TheVariants as part
+use Rattle.r4k_top.specs.declared.statuses.Status.{Status}
+use Rattle.r4k_top.specs.declared.statuses.Status.TheVariants.{Done, Usage, ReadFault, WriteFault, Memory, Unbuilt}
+
+-- the number with which the program ends; the numbers between belong to statuses that later parts build
+abbrev pub number_of : Status → ℕ
+number_of Done = 0
+number_of Usage = 2
+number_of ReadFault = 3
+number_of WriteFault = 4
+number_of Memory = 8
+number_of (Unbuilt tick part) = 11
+
+-- the name of a part
+abbrev pub part_name : Part → List ℕ
+part_name part.Image = codes "Image"
+part_name part.Word = codes "Word"
+part_name part.Access = codes "Access"
+
+abbrev pub unbuilt_line : ℕ → Part → List ℕ
+unbuilt_line tick part = codes "Unbuilt " ++ dec_of tick ++ codes " " ++ part_name part ++ codes "\n"
+
+-- the line of a status: its name, then each field after a blank
+abbrev pub status_line : Status → List ℕ
+status_line Done = codes "Done\n"
+status_line Usage = codes "Usage\n"
+status_line ReadFault = codes "ReadFault\n"
+status_line WriteFault = codes "WriteFault\n"
+status_line Memory = codes "Memory\n"
+status_line (Unbuilt tick part) = unbuilt_line tick part

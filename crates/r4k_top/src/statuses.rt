@@ -1,0 +1,101 @@
+//! How the program ended.
+
+ghost use Rattle.std.specs.Prelude.{◌≡◌, ◌≤◌, ◌+◌, ◌++◌, length, OnOk, OnErr};
+ghost use Rattle.arrayvec.specs.ArrayVec.{array_vec_len};
+ghost use Rattle.r4_ports.specs.Told.{Appended, AppendedPrefix, HasCause};
+ghost use Rattle.r4k_top.specs.StatusText as law;
+
+use machine_core::Part;
+use r4_ports::pieces::write_all;
+use r4_ports::{Sink, SinkFault};
+use r4_words::{Line, put_dec, put_text};
+
+/// How the program ended.
+#[derive(Clone, Copy, Debug, PartialEq, Eq)]
+pub enum Status {
+    /// The job is complete.
+    Done,
+    /// The words are no command.
+    Usage,
+    /// A file could not be read.
+    ReadFault,
+    /// The output could not be written.
+    WriteFault,
+    /// There was not enough memory.
+    Memory,
+    /// The run met a part that is not built yet, at this tick, numbered from 0.
+    Unbuilt { tick: u32, part: Part },
+}
+
+/// The number of a status, with which the program ends.
+pub fn status_number(status: &Status) -> u8
+    ensures number { result ≡ law.number_of status.now }
+{
+    match status {
+        Status::Done => 0,
+        Status::Usage => 2,
+        Status::ReadFault => 3,
+        Status::WriteFault => 4,
+        Status::Memory => 8,
+        Status::Unbuilt { .. } => 11,
+    }
+}
+
+// The name of a part.
+fn name_of(part: Part) -> &'static [u8]
+    ensures name { result.now ≡ law.part_name part }
+    ensures short { length result.now ≤ 6 }
+{
+    match part {
+        Part::Image => b"Image",
+        Part::Word => b"Word",
+        Part::Access => b"Access",
+    }
+}
+
+// The line of Unbuilt.
+fn unbuilt_line(tick: u32, part: Part) -> Line
+    ensures text { result.items ≡ law.unbuilt_line tick part }
+{
+    let mut line = Line::new();
+    put_text(b"Unbuilt ", &mut line);
+    put_dec(u64::from(tick), &mut line);
+    put_text(b" ", &mut line);
+    put_text(name_of(part), &mut line);
+    put_text(b"\n", &mut line);
+    line
+}
+
+// A line of this text.
+fn line_of(text: &[u8]) -> Line
+    requires { length text.now ≤ 128 }
+    ensures text { result.items ≡ text.now }
+{
+    let mut line = Line::new();
+    put_text(text, &mut line);
+    line
+}
+
+// The line of a status.
+fn status_line(status: &Status) -> Line
+    ensures text { result.items ≡ law.status_line status.now }
+{
+    match status {
+        Status::Done => line_of(b"Done\n"),
+        Status::Usage => line_of(b"Usage\n"),
+        Status::ReadFault => line_of(b"ReadFault\n"),
+        Status::WriteFault => line_of(b"WriteFault\n"),
+        Status::Memory => line_of(b"Memory\n"),
+        Status::Unbuilt { tick, part } => unbuilt_line(*tick, *part),
+    }
+}
+
+/// Writes the line of a status: its name, then each field after a blank. Where a write fails, a prefix was written.
+pub fn write_status<K: Sink>(status: &Status, out: &mut K) -> Result<(), SinkFault>
+    ensures ok { OnOk result (Appended (K.written out.old) (K.written out.new) (law.status_line status.now)) }
+    ensures err { OnErr result (AppendedPrefix (K.written out.old) (K.written out.new) (law.status_line status.now)) }
+    ensures cause { HasCause (K.faults out.old) (K.faults out.new) result }
+{
+    let line = status_line(status);
+    write_all(line.as_slice(), out)
+}
