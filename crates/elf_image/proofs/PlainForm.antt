@@ -1,13 +1,12 @@
 -- What the plain form says of an image.
-use Rattle.std.proofs.Common.{◌≡◌, ℕ, ◌+◌, ◌-◌, ◌%◌, ◌^◌, ◌≤◌, ◌<◌, Bool, true, false, ◌&&◌, ◌||◌, ◌==◌, List, ◌++◌, length, drop, refl, sym, ap, ◌∙◌, arith, nat_eq, nat_le}
+use Rattle.std.proofs.Common.{◌≡◌, ℕ, ◌+◌, ◌-◌, ◌%◌, ◌^◌, ◌≤◌, ◌<◌, true, List, ◌++◌, length, drop, refl, ap, ◌∙◌, arith, nat_le}
 use Rattle.std.proofs.lemmas.Bool.{leb-true, and_parts}
 use Rattle.std.proofs.lemmas.Bool.Decides.{Decides-eqb}
 use Rattle.std.proofs.lemmas.Grind.{common_steps}
 use Rattle.std.proofs.lemmas.Slice.Eq.{starts_is}
 use Rattle.flat_ram.specs.Map.{ram_size}
-use Rattle.flat_ram.specs.Bytes.{word_at, half_at}
 use Rattle.elf_image.specs.Header.{elf_header, program_header, table_of, count_of, entry_of}
-use Rattle.elf_image.specs.Plain.{is_plain, base_of, plain_header, has_place, can_enter}
+use Rattle.elf_image.specs.Plain.{is_plain, base_of, plain_header, has_place}
 
 pub plain_is_long : (bytes : List ℕ) → is_plain bytes ≡ true → 84 ≤ length bytes
 unfolding is_plain

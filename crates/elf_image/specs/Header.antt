@@ -2,7 +2,7 @@
 -- standard, and the bytes of the headers that it writes.
 -- Source: System V Application Binary Interface, Object Files: "ELF Header" and "Program Header" (32-bit), with the
 -- MIPS RISC Processor Supplement for EM_MIPS.
-use Rattle.std.specs.Prelude.{ℕ, ◌+◌, List, [], ◌∷◌, ◌++◌}
+use Rattle.std.specs.Prelude.{ℕ, List, [], ◌∷◌, ◌++◌}
 use Rattle.flat_ram.specs.Bytes.{half_at, word_at, bytes_of_half, bytes_of}
 
 -- e_entry: where the image is entered

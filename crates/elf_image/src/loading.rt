@@ -1,5 +1,5 @@
 // The RAM after an image was loaded.
-ghost use Rattle.std.specs.Prelude.{◌≡◌};
+ghost use Rattle.std.specs.Prelude.{◌≡◌, ◌≤◌, length};
 ghost use Rattle.elf_image.specs.Loading.{loaded};
 
 use crate::reading::Image;
@@ -33,6 +33,12 @@ mod tests {
 
     fn is_read(bytes: &[u8]) -> bool {
         read_plain(bytes).is_some()
+    }
+
+    fn front(bytes: &[u8], count: usize) -> &[u8]
+        requires { count ≤ length bytes.now }
+    {
+        &bytes[..count]
     }
 
     // The image with another base.
@@ -104,7 +110,7 @@ mod tests {
         let mut bytes = at_base(0xfffffffc);
         bytes[71] = 0;
         bytes[75] = 0;
-        let image = read_plain(&bytes[..84]).ok_or("plain")?;
+        let image = read_plain(front(&bytes, 84)).ok_or("plain")?;
         let mut ram = Ram::new(rt.alloc())?;
         ram.set_word(0x7ffffc, 5);
         load(&image, &mut ram);

@@ -10,6 +10,7 @@ use flat_ram::RAM_SIZE;
 use std::marker::Model;
 
 /// An image that the machine can be started from. Clauses see it as the bytes of its file.
+#[derive(Drop)]
 pub struct Image<'a> {
     bytes: &'a [u8],
     entry: u32,
