@@ -1,0 +1,13 @@
+// Halves and words of a file, the high byte first.
+ghost use Rattle.std.specs.Prelude.{◌≡◌, ◌+◌, ◌≤◌, length};
+ghost use Rattle.flat_ram.specs.Bytes as law;
+
+use byteorder::{BigEndian, ByteOrder};
+
+/// The word at an offset.
+pub fn word_at(bytes: &[u8], at: usize) -> u32
+    requires { at + 4 ≤ length bytes.now }
+    ensures { result ≡ law.word_at bytes.now at }
+{
+    BigEndian::read_u32(&bytes[at..])
+}

@@ -1,0 +1,88 @@
+// The headers of an image of the plain form.
+ghost use Rattle.std.specs.Prelude.{◌≡◌, ◌+◌, ◌≤◌, ◌++◌, length};
+ghost use Rattle.arrayvec.specs.ArrayVec.{array_vec_len};
+ghost use Rattle.flat_ram.specs.Bytes.{bytes_of, bytes_of_half};
+ghost use Rattle.elf_image.specs.Header as law;
+ghost use Rattle.elf_image.specs.Plain.{plain_header};
+
+use arrayvec::ArrayVec;
+
+/// The bytes of the two headers.
+pub type Headers = ArrayVec<u8, 84>;
+
+const IDENT: [u8; 16] = [0x7f, 0x45, 0x4c, 0x46, 1, 2, 1, 0, 0, 0, 0, 0, 0, 0, 0, 0];
+
+fn put_bytes(bytes: &[u8], headers: &mut Headers)
+    requires { array_vec_len headers.old + length bytes.now ≤ 84 }
+    ensures items { headers.new.items ≡ headers.old.items ++ bytes.now }
+    ensures len { array_vec_len headers.new ≡ array_vec_len headers.old + length bytes.now }
+{
+    match headers.try_extend_from_slice(bytes) {
+        Ok(()) => {}
+        Err(_) => unreachable!(),
+    }
+}
+
+fn put_half(half: u16, headers: &mut Headers)
+    requires { array_vec_len headers.old + 2 ≤ 84 }
+    ensures items { headers.new.items ≡ headers.old.items ++ bytes_of_half half }
+    ensures len { array_vec_len headers.new ≡ array_vec_len headers.old + 2 }
+{
+    put_bytes(&half.to_be_bytes(), headers);
+}
+
+fn put_word(word: u32, headers: &mut Headers)
+    requires { array_vec_len headers.old + 4 ≤ 84 }
+    ensures items { headers.new.items ≡ headers.old.items ++ bytes_of word }
+    ensures len { array_vec_len headers.new ≡ array_vec_len headers.old + 4 }
+{
+    put_bytes(&word.to_be_bytes(), headers);
+}
+
+#[tactic(auto, unfolding(crate::specs::Header::elf_header))]
+fn put_elf_header(entry: u32, headers: &mut Headers)
+    requires { array_vec_len headers.old + 52 ≤ 84 }
+    ensures items { headers.new.items ≡ headers.old.items ++ law.elf_header entry }
+    ensures len { array_vec_len headers.new ≡ array_vec_len headers.old + 52 }
+{
+    put_bytes(&IDENT, headers);
+    put_half(2, headers);
+    put_half(8, headers);
+    put_word(1, headers);
+    put_word(entry, headers);
+    put_word(52, headers);
+    put_word(0, headers);
+    put_word(0, headers);
+    put_half(52, headers);
+    put_half(32, headers);
+    put_half(1, headers);
+    put_half(0, headers);
+    put_half(0, headers);
+    put_half(0, headers);
+}
+
+#[tactic(auto, unfolding(crate::specs::Header::program_header))]
+fn put_program_header(base: u32, count: u32, headers: &mut Headers)
+    requires { array_vec_len headers.old + 32 ≤ 84 }
+    ensures items { headers.new.items ≡ headers.old.items ++ law.program_header base count }
+    ensures len { array_vec_len headers.new ≡ array_vec_len headers.old + 32 }
+{
+    put_word(1, headers);
+    put_word(84, headers);
+    put_word(base, headers);
+    put_word(base, headers);
+    put_word(count, headers);
+    put_word(count, headers);
+    put_word(7, headers);
+    put_word(4, headers);
+}
+
+/// The two headers of an image of so many bytes at a base, with an entry.
+pub fn plain_header(base: u32, entry: u32, count: u32) -> Headers
+    ensures { result.items ≡ plain_header base entry count }
+{
+    let mut headers = Headers::new();
+    put_elf_header(entry, &mut headers);
+    put_program_header(base, count, &mut headers);
+    headers
+}
