@@ -1,0 +1,29 @@
+-- The finite map of a list of files has for a name what a search of the list finds.
+use Rattle.std.proofs.Common.{◌≡◌, ℕ, List, [], ◌∷◌, map, cond, if◌then◌else◌, true, false, refl, sym, ap, ◌∙◌, String, Vec, string_bytes, Option, Some, None, Bool, take, unwrap_or}
+use Rattle.std.specs.Str.{bytes_eq}
+use Rattle.std.specs.declared.alloc.Global.{Global}
+use Rattle.std.specs.Ordering.{nat_cmp}
+use Rattle.std.specs.Cmp.Lexicographic.{slice_cmp, nat_list_cmp_total}
+use Rattle.std.specs.FinMap.{find, get, get-from_entries}
+use Rattle.std.proofs.lemmas.Map.Text.{is_eq-slice_cmp}
+use Rattle.r4_ports.specs.Told.{file_of, Fetched}
+use Rattle.r4_ports.specs.FileList.{files_of}
+
+-- the bytes of the first file with this name, where there is one
+abbrev pub find_file : List (String Global × Vec ℕ Global) → List ℕ → Option (List ℕ)
+find_file [] name = None
+find_file (file ∷ files) name = if bytes_eq name (string_bytes file.0) then Some file.1.items else find_file files name
+
+found : (files : List (String Global × Vec ℕ Global)) (name : List ℕ) → find (slice_cmp nat_cmp) name (map (λ file. (string_bytes file.0, file.1.items)) files) ≡ find_file files name
+found [] name = refl
+found (file ∷ files) name =
+    rw (is_eq-slice_cmp name (string_bytes file.0))
+    (ap (λ rest. cond (bytes_eq name (string_bytes file.0)) (Some file.1.items) rest) (found files name))
+
+pub get_files_of : (files : List (String Global × Vec ℕ Global)) (name : List ℕ) → get (files_of files) name ≡ find_file files name
+get_files_of files name = get-from_entries nat_list_cmp_total _ name ∙ found files name
+
+-- what a shelf of these files answers
+pub fetched : (files : List (String Global × Vec ℕ Global)) (is_told : Bool) (name : List ℕ) (cap : ℕ) (bytes : List ℕ) → bytes ≡ take cap (file_of (files_of files) name) → Fetched (cond is_told (Some (files_of files)) None) name cap bytes
+fetched files true name cap bytes is = is
+fetched files false name cap bytes is = tt
