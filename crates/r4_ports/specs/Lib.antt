@@ -4,3 +4,6 @@ pub mod FileList
 pub mod Numbered
 pub mod SureState
 pub mod SinkState
+pub mod Spans
+pub mod PutLog
+pub mod CallLog

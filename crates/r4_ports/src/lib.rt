@@ -13,9 +13,11 @@
 ghost use Rattle.std.specs.Prelude.{◌≡◌, ◌≤◌, List, ℕ, length, [], ◌∷◌, IfOk, OnOk, OnErr, IsErrOf, Option, None};
 ghost use Rattle.r4_ports.specs.Told.{Files, Call, fetch_of, put_of, Rose, HasCause, Appended, AppendedPrefix, Fetched, PutInto};
 
+mod call_log;
 mod file_list;
 pub mod mem_sink;
 pub mod pieces;
+mod put_log;
 mod spans;
 pub mod sure_shelf;
 pub mod sure_sink;
