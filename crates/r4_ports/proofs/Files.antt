@@ -1,13 +1,14 @@
 -- The finite map of a list of files has for a name what a search of the list finds.
-use Rattle.std.proofs.Common.{◌≡◌, ℕ, List, [], ◌∷◌, map, cond, if◌then◌else◌, true, false, refl, sym, ap, ◌∙◌, String, Vec, string_bytes, Option, Some, None, Bool, take, unwrap_or}
+use Rattle.std.proofs.Common.{◌≡◌, ℕ, List, [], ◌∷◌, ◌++◌, map, cond, if◌then◌else◌, true, false, refl, sym, ap, ◌∙◌, String, Vec, string_bytes, Option, Some, None, Bool, take, unwrap_or}
 use Rattle.std.specs.Str.{bytes_eq}
 use Rattle.std.specs.declared.alloc.Global.{Global}
 use Rattle.std.specs.Ordering.{nat_cmp}
 use Rattle.std.specs.Cmp.Lexicographic.{slice_cmp, nat_list_cmp_total}
-use Rattle.std.specs.FinMap.{find, get, get-from_entries}
+use Rattle.std.specs.FinMap.{find, get, insert, get-from_entries, get-insert}
 use Rattle.std.proofs.lemmas.Map.Text.{is_eq-slice_cmp}
-use Rattle.r4_ports.specs.Told.{file_of, Fetched}
+use Rattle.r4_ports.specs.Told.{Files, file_of, Fetched}
 use Rattle.r4_ports.specs.FileList.{files_of}
+use Rattle.r4_ports.specs.PutLog.{files_after, latest}
 
 -- the bytes of the first file with this name, where there is one
 abbrev pub find_file : List (String Global × Vec ℕ Global) → List ℕ → Option (List ℕ)
@@ -27,3 +28,15 @@ get_files_of files name = get-from_entries nat_list_cmp_total _ name ∙ found f
 pub fetched : (files : List (String Global × Vec ℕ Global)) (is_told : Bool) (name : List ℕ) (cap : ℕ) (bytes : List ℕ) → bytes ≡ take cap (file_of (files_of files) name) → Fetched (cond is_told (Some (files_of files)) None) name cap bytes
 fetched files true name cap bytes is = is
 fetched files false name cap bytes is = tt
+
+-- after puts a name has what the last put to it gave it, or what it had before
+pub get-files_after : (files : Files) (puts : List (List ℕ × List ℕ)) (name : List ℕ) → get (files_after files puts) name ≡ latest (get files name) puts name
+get-files_after files [] name = refl
+get-files_after files (put ∷ puts) name =
+    get-files_after (insert files put.0 put.1) puts name
+    ∙ ap (λ before. latest before puts name) (get-insert nat_list_cmp_total files put.0 put.1 name ∙ ap (λ b. cond b (Some put.1) (get files name)) (is_eq-slice_cmp name put.0))
+
+-- one put more
+pub files_after-and : (files : Files) (puts : List (List ℕ × List ℕ)) (name bytes : List ℕ) → files_after files (puts ++ (name, bytes) ∷ []) ≡ insert (files_after files puts) name bytes
+files_after-and files [] name bytes = refl
+files_after-and files (put ∷ puts) name bytes = files_after-and (insert files put.0 put.1) puts name bytes

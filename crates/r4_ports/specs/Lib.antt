@@ -7,3 +7,5 @@ pub mod SinkState
 pub mod Spans
 pub mod PutLog
 pub mod CallLog
+pub mod ShelfState
+pub mod ShelfCode

@@ -1,5 +1,6 @@
 //! The calls made of a shelf in memory, told while they fit in memory that is all taken when the log is made.
 ghost use Rattle.std.specs.Prelude.{◌≡◌, ◌≤◌, ◌<◌, ◌+◌, [], ◌∷◌, ◌++◌, length, map, Some, IfOk, vec_capacity};
+ghost use Rattle.r4_ports.specs.Told.{Appended};
 ghost use Rattle.r4_ports.specs.CallLog.{asked_after, call_at, AllCallsWithin};
 
 use crate::CallKind;
@@ -54,7 +55,8 @@ impl CallLog {
 
     /// One call more, told where it fits.
     pub fn push(&mut self, kind: CallKind, name: &str)
-        ensures { self.new ≡ asked_after self.old (record { kind = kind; name = name.now }) }
+        ensures state { self.new ≡ asked_after self.old (record { kind = kind; name = name.now }) }
+        ensures appended { Appended self.old self.new (record { kind = kind; name = name.now } ∷ []) }
     {
         let free = ROOM - self.buffer.len() - 8 * self.records.len();
         if self.is_told && free >= 8 && name.len() <= free - 8 {

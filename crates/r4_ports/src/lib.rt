@@ -15,6 +15,7 @@ ghost use Rattle.r4_ports.specs.Told.{Files, Call, fetch_of, put_of, Rose, HasCa
 
 mod call_log;
 mod file_list;
+pub mod mem_shelf;
 pub mod mem_sink;
 pub mod pieces;
 mod put_log;
@@ -22,6 +23,7 @@ mod spans;
 pub mod sure_shelf;
 pub mod sure_sink;
 
+pub use mem_shelf::MemShelf;
 pub use mem_sink::MemSink;
 pub use sure_shelf::SureShelf;
 pub use sure_sink::SureSink;
