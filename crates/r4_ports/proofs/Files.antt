@@ -6,9 +6,10 @@ use Rattle.std.specs.Ordering.{nat_cmp}
 use Rattle.std.specs.Cmp.Lexicographic.{slice_cmp, nat_list_cmp_total}
 use Rattle.std.specs.FinMap.{find, get, insert, get-from_entries, get-insert}
 use Rattle.std.proofs.lemmas.Map.Text.{is_eq-slice_cmp}
-use Rattle.r4_ports.specs.Told.{Files, file_of, Fetched}
+use Rattle.r4_ports.specs.Told.{Files, Call, file_of, Fetched, PutInto}
 use Rattle.r4_ports.specs.FileList.{files_of}
-use Rattle.r4_ports.specs.PutLog.{files_after, latest}
+use Rattle.r4_ports.specs.PutLog.{PutLogState, after_put_of, files_after, latest}
+use Rattle.r4_ports.specs.ShelfState.{shelf_state, after_keeping}
 
 -- the bytes of the first file with this name, where there is one
 abbrev pub find_file : List (String Global × Vec ℕ Global) → List ℕ → Option (List ℕ)
@@ -40,3 +41,14 @@ get-files_after files (put ∷ puts) name =
 pub files_after-and : (files : Files) (puts : List (List ℕ × List ℕ)) (name bytes : List ℕ) → files_after files (puts ++ (name, bytes) ∷ []) ≡ insert (files_after files puts) name bytes
 files_after-and files [] name bytes = refl
 files_after-and files (put ∷ puts) name bytes = files_after-and (insert files put.0 put.1) puts name bytes
+
+-- what a shelf tells after one put more
+pub put_into : (files : Files) (log : PutLogState) (is_told : Bool) (name bytes : List ℕ) → PutInto (cond is_told (Some (files_after files log.puts)) None) (cond is_told (Some (files_after files (after_put_of log name bytes).puts)) None) name bytes
+put_into files log true name bytes = files_after-and files log.puts name bytes
+put_into files log false name bytes = tt
+
+-- how a shelf stands after one put more
+pub shelf_after-put : (files : Files) (log : PutLogState) (is_told : Bool) (asked : Option (List Call)) (failing : List ℕ) (calls fetch_faults put_faults : ℕ) (name bytes : List ℕ) →
+    shelf_state files (after_put_of log name bytes) is_told asked failing calls fetch_faults put_faults ≡ after_keeping (shelf_state files log is_told asked failing calls fetch_faults put_faults) name bytes
+shelf_after-put files log is_told asked failing calls fetch_faults put_faults name bytes =
+    λ i. record (shelf_state files (after_put_of log name bytes) is_told asked failing calls fetch_faults put_faults) { files = files_after-and files log.puts name bytes i }

@@ -47,13 +47,13 @@ after_fetch shelf name = record (after_call shelf (fetch_of name)) { fetch_fault
 abbrev pub after_failed_put : ShelfState → List ℕ → ShelfState
 after_failed_put shelf name = record (after_call shelf (put_of name)) { is_told = false; put_faults = counted shelf.put_faults }
 
--- the shelf after a put that did not fail: the name has the bytes
-abbrev pub after_good_put : ShelfState → List ℕ → List ℕ → ShelfState
-after_good_put shelf name bytes = record (after_call shelf (put_of name)) { files = insert shelf.files name bytes; left = shelf.left - put_size name bytes }
+-- the shelf when a name has been set to these bytes
+abbrev pub after_keeping : ShelfState → List ℕ → List ℕ → ShelfState
+after_keeping shelf name bytes = record shelf { files = insert shelf.files name bytes; left = shelf.left - put_size name bytes }
 
 -- the shelf after a put
 abbrev pub after_put : ShelfState → List ℕ → List ℕ → ShelfState
-after_put shelf name bytes = if put_fails shelf name bytes then after_failed_put shelf name else after_good_put shelf name bytes
+after_put shelf name bytes = if put_fails shelf name bytes then after_failed_put shelf name else after_keeping (after_call shelf (put_of name)) name bytes
 
 -- a shelf that was made of these files and has carried out these puts
 abbrev pub shelf_state : Files → PutLogState → Bool → Option (List Call) → List ℕ → ℕ → ℕ → ℕ → ShelfState

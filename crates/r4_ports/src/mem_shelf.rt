@@ -6,7 +6,8 @@ ghost use Rattle.r4_ports.specs.Told.{file_of, fetch_of, put_of, Fetched, PutInt
 ghost use Rattle.r4_ports.specs.Numbered.{is_listed};
 ghost use Rattle.r4_ports.specs.declared.FetchFault.TheVariants.{Failed};
 ghost use Rattle.r4_ports.specs.FileList.{files_of};
-ghost use Rattle.r4_ports.specs.ShelfState.{new_shelf, held_by, fetch_fails, put_fails, after_call, after_fetch, after_put};
+ghost use Rattle.r4_ports.specs.ShelfState.{new_shelf, held_by, fetch_fails, put_fails, after_call, after_fetch, after_keeping, after_put};
+ghost use Rattle.r4_ports.specs.PutLog.{put_size};
 
 use crate::call_log::CallLog;
 use crate::file_list::{find_file, first_bytes};
@@ -106,6 +107,15 @@ impl MemShelf {
         self.is_listed() || !self.puts.fits(name, bytes)
     }
 
+    // Sets a file to these bytes, for which there is room.
+    fn keep(&mut self, name: &str, bytes: &[u8])
+        requires { put_size name.now bytes.now ≤ self.old.left }
+        ensures state { self.new ≡ after_keeping self.old name.now bytes.now }
+        ensures put { PutInto (held_by self.old) (held_by self.new) name.now bytes.now }
+    {
+        self.puts.push(name, bytes);
+    }
+
     // Counts a call, and lists it while it fits.
     fn count_call(&mut self, kind: CallKind, name: &str)
         ensures state { self.new ≡ after_call self.old (record { kind = kind; name = name.now }) }
@@ -158,7 +168,7 @@ impl Shelf for MemShelf {
             self.put_faults = self.put_faults.saturating_add(1);
             return Err(PutFault::Failed);
         }
-        self.puts.push(name, bytes);
+        self.keep(name, bytes);
         Ok(())
     }
 }
