@@ -1,5 +1,5 @@
 -- What is appended to a buffer of texts keeps the texts before it, and adds one.
-use Rattle.std.proofs.Common.{◌≡◌, ◌≤◌, ◌+◌, ◌-◌, ◌*◌, ℕ, Bool, true, List, [], ◌∷◌, ◌++◌, Option, Some, map, length, refl, ap, sym, ◌∙◌, arith, cond, None, length-append}
+use Rattle.std.proofs.Common.{◌≡◌, ◌≤◌, ◌+◌, ◌-◌, ◌*◌, ℕ, Bool, true, List, [], ◌∷◌, ◌++◌, Option, Some, map, length, refl, ap, sym, ◌∙◌, arith, subst, unwrap_or, slice_get, zero, suc, length-append}
 use Rattle.std.proofs.lemmas.Grind.{common_steps}
 use Rattle.std.proofs.lemmas.Bool.{le-leb}
 use Rattle.std.proofs.lemmas.List.Sums.{sum_by-append}
@@ -80,10 +80,8 @@ pub calls_at_after : (buffer name : List ℕ) (kind : CallKind) (calls : List Ca
 calls_at_after buffer name kind [] w = λ i. record { kind = kind; name = text_at_last buffer name i } ∷ []
 calls_at_after buffer name kind (call ∷ calls) w = λ i. record { kind = call.kind; name = text_at_before buffer name call.name w.0 i } ∷ calls_at_after buffer name kind calls w.1 i
 
--- one call more takes its name and 8 bytes
-pub calls_size_and : (calls : List Call) (call : Call) → calls_size (calls ++ call ∷ []) ≡ calls_size calls + (length call.name + 8)
-calls_size_and calls call = omega (arith, sum_by-append (λ one. length one.name + 8) calls (call ∷ []))
-
--- what is told after one call more that fits
-pub call_log_after : (buffer name : List ℕ) (kind : CallKind) (calls : List CallRecord) → AllCallsWithin (length buffer) calls → calls_size (map (call_at buffer) calls ++ record { kind = kind; name = name } ∷ []) ≤ 4096 → call_log (buffer ++ name) (calls ++ call_after buffer kind name ∷ []) true ≡ asked_after (call_log buffer calls true) (record { kind = kind; name = name })
-call_log_after buffer name kind calls w le = ap Some (calls_at_after buffer name kind calls w) ∙ sym (ap (λ b. cond b (Some (map (call_at buffer) calls ++ record { kind = kind; name = name } ∷ [])) None) (le-leb _ _ le))
+-- a recorded call lies within the buffer
+pub call_within : (size : ℕ) (calls : List CallRecord) (number : ℕ) (call : CallRecord) → AllCallsWithin size calls → slice_get calls number ≡ Some call → Within size call.name
+call_within size [] number call w e = cc
+call_within size (first ∷ calls) zero call w e = subst (λ one. Within size one.name) (ap (λ o. unwrap_or o first) e) w.0
+call_within size (first ∷ calls) (suc number) call w e = call_within size calls number call w.1 e

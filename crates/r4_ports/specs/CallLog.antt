@@ -1,5 +1,5 @@
 -- The calls made of a shelf, told while they fit.
-use Rattle.std.specs.Prelude.{◌≡◌, ℕ, Bool, ◌+◌, List, [], ◌∷◌, ◌++◌, map, length, sum_by, nat_le, Option, Some, None, if◌then◌else◌}
+use Rattle.std.specs.Prelude.{ℕ, Bool, ◌+◌, List, [], ◌∷◌, ◌++◌, map, length, sum_by, slice_get, nat_le, Option, Some, None, if◌then◌else◌}
 use Rattle.r4_ports.specs.Told.{Call}
 use Rattle.r4_ports.specs.Spans.{text_at, Within}
 use Rattle.r4_ports.specs.declared.call_log.CallRecord.{CallRecord}
@@ -12,6 +12,11 @@ calls_size calls = sum_by (λ call. length call.name + 8) calls
 abbrev pub asked_after : Option (List Call) → Call → Option (List Call)
 asked_after None call = None
 asked_after (Some calls) call = if nat_le (calls_size (calls ++ call ∷ [])) 4096 then Some (calls ++ call ∷ []) else None
+
+-- the call of this number, where the calls are told and so many were made
+abbrev pub told_call : Option (List Call) → ℕ → Option Call
+told_call None number = None
+told_call (Some calls) number = slice_get calls number
 
 -- a call that is recorded in a buffer
 abbrev pub call_at : List ℕ → CallRecord → Call

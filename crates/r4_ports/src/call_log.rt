@@ -1,7 +1,8 @@
 //! The calls made of a shelf in memory, told while they fit in memory that is all taken when the log is made.
-ghost use Rattle.std.specs.Prelude.{◌≡◌, ◌≤◌, ◌<◌, ◌+◌, [], ◌∷◌, ◌++◌, length, map, Some, IfOk, vec_capacity};
+ghost use Rattle.std.specs.Prelude.{◌≡◌, ◌≤◌, ◌<◌, ◌+◌, [], ◌∷◌, ◌++◌, length, map, slice_get, Some, IfOk, vec_capacity};
+ghost use Rattle.std.specs.Option.{option_map};
 ghost use Rattle.r4_ports.specs.Told.{Appended};
-ghost use Rattle.r4_ports.specs.CallLog.{asked_after, call_at, AllCallsWithin};
+ghost use Rattle.r4_ports.specs.CallLog.{asked_after, call_at, told_call, AllCallsWithin};
 
 use crate::CallKind;
 use crate::spans::{Span, append_text, text_at};
@@ -64,6 +65,28 @@ impl CallLog {
         } else {
             self.is_told = false;
         }
+    }
+
+    /// What the call of this number asked for, and its name's bytes, where it is told and was made.
+    pub fn get(&self, number: usize) -> Option<(CallKind, &[u8])>
+        ensures { option_map (λ call. record { kind = call.0; name = call.1.now }) result ≡ told_call self.now number }
+    {
+        if self.is_told {
+            call_in(&self.buffer, &self.records, number)
+        } else {
+            None
+        }
+    }
+}
+
+// The recorded call of this number.
+fn call_in<'a>(buffer: &'a [u8], records: &[CallRecord], number: usize) -> Option<(CallKind, &'a [u8])>
+    requires { AllCallsWithin (length buffer.now) records.now }
+    ensures { option_map (λ call. record { kind = call.0; name = call.1.now }) result ≡ slice_get (map (call_at buffer.now) records.now) number }
+{
+    match records.get(number) {
+        Some(call) => Some((call.kind, text_at(buffer, call.name))),
+        None => None,
     }
 }
 

@@ -1,12 +1,13 @@
 //! A shelf in memory, whose calls fail by a list.
 ghost use Rattle.std.specs.Prelude.{◌≡◌, ◌≤◌, ◌↔◌, Some, None, IfOk, OnOk, OnErr, IsErr, IsErrOf, IsTrue, take, ◌∷◌, []};
-ghost use Rattle.std.specs.Option.{option_copied};
+ghost use Rattle.std.specs.Option.{option_copied, option_map};
 ghost use Rattle.std.specs.FinMap.{get};
 ghost use Rattle.r4_ports.specs.Told.{file_of, fetch_of, put_of, Fetched, PutInto, Appended, HasCause, Rose};
 ghost use Rattle.r4_ports.specs.Numbered.{is_listed};
 ghost use Rattle.r4_ports.specs.declared.FetchFault.TheVariants.{Failed};
 ghost use Rattle.r4_ports.specs.FileList.{files_of};
 ghost use Rattle.r4_ports.specs.ShelfState.{new_shelf, held_by, fetch_fails, put_fails, after_call, after_fetch, after_keeping, after_put};
+ghost use Rattle.r4_ports.specs.CallLog.{told_call};
 ghost use Rattle.r4_ports.specs.PutLog.{put_size};
 
 use crate::call_log::CallLog;
@@ -76,6 +77,13 @@ impl MemShelf {
     {
         self.puts.latest(name, find_file(&self.files, name))
     }
+    /// What the call of this number asked for, and its name's bytes, where it is told and was made.
+    pub fn call(&self, number: usize) -> Option<(CallKind, &[u8])>
+        ensures { option_map (λ call. record { kind = call.0; name = call.1.now }) result ≡ told_call self.now.asked number }
+    {
+        self.asked.get(number)
+    }
+
     // The bytes under a name; a name that is missing has none.
     fn bytes_of(&self, name: &str) -> &[u8]
         ensures { result.now ≡ file_of self.now.files name.now }
