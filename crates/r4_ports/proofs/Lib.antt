@@ -1,1 +1,3 @@
 pub mod Writing
+mod Files
+mod Appending

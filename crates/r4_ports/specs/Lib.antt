@@ -1,2 +1,11 @@
 pub mod Told
 pub mod Writing
+pub mod FileList
+pub mod Numbered
+pub mod SureState
+pub mod SinkState
+pub mod Spans
+pub mod PutLog
+pub mod CallLog
+pub mod ShelfState
+pub mod ShelfCode

@@ -13,8 +13,20 @@
 ghost use Rattle.std.specs.Prelude.{◌≡◌, ◌≤◌, List, ℕ, length, [], ◌∷◌, IfOk, OnOk, OnErr, IsErrOf, Option, None};
 ghost use Rattle.r4_ports.specs.Told.{Files, Call, fetch_of, put_of, Rose, HasCause, Appended, AppendedPrefix, Fetched, PutInto};
 
+mod call_log;
+mod file_list;
+pub mod mem_shelf;
+pub mod mem_sink;
 pub mod pieces;
+mod put_log;
+mod spans;
+pub mod sure_shelf;
+pub mod sure_sink;
 
+pub use mem_shelf::MemShelf;
+pub use mem_sink::MemSink;
+pub use sure_shelf::SureShelf;
+pub use sure_sink::SureSink;
 pub use pieces::{Line, finish, put_all, put_line};
 use r4_words::Memory;
 use std::alloc::Global;

@@ -1,0 +1,31 @@
+-- How a sink in memory stands, and what a write does to it.
+use Rattle.std.specs.Prelude.{ℕ, Bool, ◌||◌, ◌+◌, ◌-◌, ◌/◌, List, ◌++◌, length, take, min, nat_lt, if◌then◌else◌}
+use Rattle.r4_ports.specs.Numbered.{counted, counted_if, is_listed}
+
+-- what was written, the most bytes that it keeps, the numbers of the calls that fail, the number of the next call,
+-- and how many have failed
+pub record SinkState : Type 0 where
+  pub written : List ℕ
+  pub room : ℕ
+  pub failing : List ℕ
+  pub calls : ℕ
+  pub faults : ℕ
+
+abbrev pub sink_state : List ℕ → ℕ → List ℕ → ℕ → ℕ → SinkState
+sink_state written room failing calls faults = record { written = written; room = room; failing = failing; calls = calls; faults = faults }
+
+-- a write fails where its number is listed, or its piece goes beyond the room
+abbrev pub write_fails : SinkState → List ℕ → Bool
+write_fails sink piece = is_listed sink.failing sink.calls || nat_lt sink.room (length sink.written + length piece)
+
+-- what a write appends: its piece, or the first half of it where its number is listed, as far as the room goes
+abbrev pub part_written : SinkState → List ℕ → List ℕ
+part_written sink piece = take (min (if is_listed sink.failing sink.calls then length piece / 2 else length piece) (sink.room - length sink.written)) piece
+
+-- the sink after a write
+abbrev pub after_write : SinkState → List ℕ → SinkState
+after_write sink piece = record sink {
+  written = sink.written ++ part_written sink piece;
+  calls = counted sink.calls;
+  faults = counted_if (write_fails sink piece) sink.faults;
+}
