@@ -2,7 +2,7 @@
 use Rattle.std.proofs.Common.{◌≡◌, ℕ, ◌+◌, ◌-◌, ◌≤◌, ◌<◌, ◌⊎◌, Bool, true, false, List, take, length, Option, Some, None, refl, sym, ap, subst, ◌∙◌, arith, inl, inr}
 use Rattle.std.proofs.lemmas.List.{take_all, length-take}
 use Rattle.elf_image.specs.Plain.{is_plain}
-use Rattle.elf_image.proofs.PlainForm.{plain_is_short}
+use Rattle.elf_image.proofs.PlainForm.{plain_is_long, body_placed}
 use Rattle.machine_core.specs.declared.talk.Part.{Part}
 use Rattle.machine_core.specs.declared.talk.Part.TheVariants as part
 use Rattle.r4_ports.specs.Told.{Files, file_of, Fetched, Appended, AppendedPrefix}
@@ -14,6 +14,17 @@ use Rattle.r4k_top.specs.Clauses.{OutcomeIs, Written, WrittenPrefix, DoneWith, F
 
 le_or_lt : (a b : ℕ) → (a ≤ b) ⊎ (b < a)
 le_or_lt a b = grind arith
+
+some_or_none : (n : ℕ) → (0 < n) ⊎ (n ≡ 0)
+some_or_none n = grind arith
+
+plain_is_short : (bytes : List ℕ) → is_plain bytes ≡ true → length bytes ≤ 8388692
+plain_is_short bytes is =
+    let long = plain_is_long bytes is in
+    elim (some_or_none (length bytes - 84)) [
+      | inl some ↦ let placed = body_placed bytes (length bytes - 84) is refl some in omega arith
+      | inr none ↦ omega arith
+    ]
 
 -- no image of the plain form is longer than its headers and the RAM
 too_long : (bytes : List ℕ) (b : Bool) → is_plain bytes ≡ b → 8388692 < length bytes → b ≡ false
