@@ -42,9 +42,9 @@ pub puts_within_after : (buffer name bytes : List ℕ) (puts : List PutRecord) �
 puts_within_after buffer name bytes puts w =
     rw (length-append (buffer ++ name) bytes)
     (puts_within_and _ puts (put_after buffer name bytes)
-      (rw (length-append buffer name) (puts_within_more _ (length bytes) puts (puts_within_more _ (length name) puts w)))
-      (rw (length-append buffer name) (within_more _ (length bytes) _ (span_after_within buffer name)))
-      (span_after_within (buffer ++ name) bytes))
+    (rw (length-append buffer name) (puts_within_more _ (length bytes) puts (puts_within_more _ (length name) puts w)))
+    (rw (length-append buffer name) (within_more _ (length bytes) _ (span_after_within buffer name)))
+    (span_after_within (buffer ++ name) bytes))
 
 -- the puts after one more
 pub puts_at_after : (buffer name bytes : List ℕ) (puts : List PutRecord) → AllPutsWithin (length buffer) puts → map (put_at (buffer ++ name ++ bytes)) (puts ++ put_after buffer name bytes ∷ []) ≡ map (put_at buffer) puts ++ (name, bytes) ∷ []

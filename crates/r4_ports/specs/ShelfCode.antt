@@ -31,7 +31,7 @@ files_code = code (coded_list coded_ℕ) (coded_list coded_ℕ)
 abbrev pub shelf_code : Coded ShelfState
 shelf_code =
     code_by ((Files × Bool) × ((Option (List Call) × ℕ) × ((List ℕ × ℕ) × (ℕ × ℕ))))
-      (coded× (coded× files_code coded_bool) (coded× (coded× (coded_option (coded_list call_code)) coded_ℕ) (coded× (coded× (coded_list coded_ℕ) coded_ℕ) (coded× coded_ℕ coded_ℕ))))
-      (λ s. ((s.files, s.is_told), ((s.asked, s.left), ((s.failing, s.calls), (s.fetch_faults, s.put_faults)))))
-      (λ p. record { files = p.0.0; is_told = p.0.1; asked = p.1.0.0; left = p.1.0.1; failing = p.1.1.0.0; calls = p.1.1.0.1; fetch_faults = p.1.1.1.0; put_faults = p.1.1.1.1 })
-      (λ _. refl)
+    (coded× (coded× files_code coded_bool) (coded× (coded× (coded_option (coded_list call_code)) coded_ℕ) (coded× (coded× (coded_list coded_ℕ) coded_ℕ) (coded× coded_ℕ coded_ℕ))))
+    (λ s. ((s.files, s.is_told), ((s.asked, s.left), ((s.failing, s.calls), (s.fetch_faults, s.put_faults)))))
+    (λ p. record { files = p.0.0; is_told = p.0.1; asked = p.1.0.0; left = p.1.0.1; failing = p.1.1.0.0; calls = p.1.1.0.1; fetch_faults = p.1.1.1.0; put_faults = p.1.1.1.1 })
+    (λ _. refl)

@@ -80,7 +80,11 @@ impl CallLog {
 }
 
 // The recorded call of this number.
-fn call_in<'a>(buffer: &'a [u8], records: &[CallRecord], number: usize) -> Option<(CallKind, &'a [u8])>
+fn call_in<'a>(
+    buffer: &'a [u8],
+    records: &[CallRecord],
+    number: usize,
+) -> Option<(CallKind, &'a [u8])>
     requires { AllCallsWithin (length buffer.now) records.now }
     ensures { option_map (λ call. record { kind = call.0; name = call.1.now }) result ≡ slice_get (map (call_at buffer.now) records.now) number }
 {

@@ -25,11 +25,11 @@ pub mod sure_sink;
 
 pub use mem_shelf::MemShelf;
 pub use mem_sink::MemSink;
-pub use sure_shelf::SureShelf;
-pub use sure_sink::SureSink;
-pub use pieces::{Line, finish, put_all, put_line};
+pub use pieces::{Line, finish, put_all, put_line, write_all};
 use r4_words::Memory;
 use std::alloc::Global;
+pub use sure_shelf::SureShelf;
+pub use sure_sink::SureSink;
 use thiserror::Error;
 
 /// Why a fetch gave no bytes.
@@ -131,3 +131,6 @@ pub trait Sink {
         ensures err { OnErr result (AppendedPrefix (written self.old) (written self.new) piece.now) }
         ensures cause { HasCause (faults self.old) (faults self.new) result };
 }
+
+#[cfg(test)]
+mod tests;

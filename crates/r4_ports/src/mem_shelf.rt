@@ -84,6 +84,20 @@ impl MemShelf {
         self.asked.get(number)
     }
 
+    /// How many fetches have failed.
+    pub fn fetch_fault_count(&self) -> u64
+        ensures { result ≡ self.now.fetch_faults }
+    {
+        self.fetch_faults
+    }
+
+    /// How many puts have failed.
+    pub fn put_fault_count(&self) -> u64
+        ensures { result ≡ self.now.put_faults }
+    {
+        self.put_faults
+    }
+
     // The bytes under a name; a name that is missing has none.
     fn bytes_of(&self, name: &str) -> &[u8]
         ensures { result.now ≡ file_of self.now.files name.now }

@@ -51,6 +51,13 @@ impl MemSink {
     {
         &self.bytes
     }
+
+    /// How many writes have failed.
+    pub fn fault_count(&self) -> u64
+        ensures { result ≡ self.now.faults }
+    {
+        self.faults
+    }
 }
 
 impl Sink for MemSink {
