@@ -76,3 +76,6 @@ pub fn workstation<F: Shelf, K: Sink>(
         },
     }
 }
+
+#[cfg(test)]
+mod tests;

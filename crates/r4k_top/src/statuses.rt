@@ -6,8 +6,7 @@ ghost use Rattle.r4_ports.specs.Told.{Appended, AppendedPrefix, HasCause};
 ghost use Rattle.r4k_top.specs.StatusText as law;
 
 use machine_core::Part;
-use r4_ports::pieces::write_all;
-use r4_ports::{Sink, SinkFault};
+use r4_ports::{Sink, SinkFault, write_all};
 use r4_words::{Line, put_dec, put_text};
 
 /// How the program ended.
