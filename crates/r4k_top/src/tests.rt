@@ -2,7 +2,9 @@
 
 use crate::{Part, Status, status_number, workstation, write_status};
 use r4_ports::{MemShelf, MemSink, SureShelf, SureSink};
+use r4_words::read_hex;
 use std::alloc::{AllocError, Global};
+use std::process::Abort;
 use std::test::Fail;
 
 // `lui t0,0xbf00; ori t1,zero,0x41; sw t1,0(t0); sw t1,32(t0); nop`: prints a letter, and halts.
@@ -59,7 +61,7 @@ out 0\n";
 // An image of these words.
 fn image_of(alloc: Global, words: &[u32]) -> Result<Vec<u8>, AllocError> {
     let mut image = Vec::from_slice(alloc, &HEADERS[..68])?;
-    let size = (words.len() as u32).wrapping_mul(4);
+    let size = 4 * (words.len() % 1024) as u32;
     image.extend_from_slice(&size.to_be_bytes())?;
     image.extend_from_slice(&size.to_be_bytes())?;
     image.extend_from_slice(&HEADERS[76..])?;
@@ -138,68 +140,81 @@ fn no_step_shows_the_state_at_reset(rt: HostRuntime) -> Result<(), Fail> {
 #[test]
 fn random_begins_again_at_47(rt: HostRuntime) -> Result<(), Fail> {
     let alloc = rt.alloc();
-    for (steps, line) in [
-        ("47", "\nc0 00000000 00000000 00000000 00000000\n"),
-        ("48", "\nc0 00000000 0000002f 00000000 00000000\n"),
-        ("49", "\nc0 00000000 0000002e 00000000 00000000\n"),
-    ] {
-        let image = image_of(alloc, &[0])?;
-        let (status, out) = run_image(alloc, &image, steps)?;
-        assert_eq!(rt; status, Status::Done);
+    let image = image_of(alloc, &[0])?;
+    for (steps, random) in [("47", "00000000"), ("48", "0000002f"), ("49", "0000002e")] {
+        let (_, out) = run_image(alloc, &image, steps)?;
         let text = std::str::from_utf8(out.bytes())?;
-        assert!(rt; text.contains(line), "{text}");
+        let line = format!(in alloc; "\nc0 00000000 {random} 00000000")?;
+        assert!(rt; text.contains(line.as_str()), "{text}");
+    }
+    Ok(())
+}
+
+// Words that are no command, a line each, with a bar between two words.
+const NO_COMMANDS: &str = "\
+    run\n\
+    run|pc/16|a|-|-\n\
+    run|pc/16|a|-|-|1|1\n\
+    run|pc/64|a|-|-|1\n\
+    run|pc/32|a|-|-|1\n\
+    run|sc/16/64/128K|a|-|-|1\n\
+    run|sc/32/128/1M|a|-|-|1\n\
+    run|pc|a|-|-|1\n\
+    run|PC/16|a|-|-|1\n\
+    run|pc/16 |a|-|-|1\n\
+    run||a|-|-|1\n\
+    check|pc/16|a|-|-|1\n\
+    trace|pc/16|a|-|-|1\n\
+    judge|pc/16|a\n\
+    asm|a|b\n\
+    dis|a\n\
+    make|1|1|b\n\
+    runs|pc/16|a|-|-|1\n\
+    --help\n\
+    --version\n\
+    run|pc/16|a|a|-|1\n\
+    run|pc/16|a|-|a|1\n\
+    run|pc/16|a|--|-|1\n\
+    run|pc/16|a||-|1\n\
+    run|pc/16|a|-|-|007\n\
+    run|pc/16|a|-|-|\n\
+    run|pc/16|a|-|-|00\n\
+    run|pc/16|a|-|-|-1\n\
+    run|pc/16|a|-|-|+1\n\
+    run|pc/16|a|-|-| 1\n\
+    run|pc/16|a|-|-|0x1\n\
+    run|pc/16|a|-|-|4294967296\n\
+    run|pc/16|a|-|-|10000000000\n\
+    run|pc/16|a|-|-|18446744073709551617\n\
+";
+
+#[test]
+fn words_that_are_no_command_are_usage(rt: HostRuntime) -> Result<(), Fail> {
+    let alloc = rt.alloc();
+    for line in NO_COMMANDS.lines() {
+        let mut words = Vec::new(alloc);
+        for word in line.split('|') {
+            words.push(String::from_str(alloc, word)?)?;
+        }
+        let mut shelf = SureShelf::new(files_of(alloc, &HEADERS)?);
+        let mut out = SureSink::new(alloc, 16)?;
+        let status = workstation(alloc, &words, &mut shelf, &mut out);
+        assert_eq!(rt; status, Status::Usage, "{line}");
+        assert!(rt; out.bytes().is_empty());
     }
     Ok(())
 }
 
 #[test]
-fn words_that_are_no_command_are_usage(rt: HostRuntime) -> Result<(), Fail> {
+fn no_words_are_usage(rt: HostRuntime) -> Result<(), Fail> {
     let alloc = rt.alloc();
-    let none: &[&str] = &[];
-    for words in [
-        none,
-        &["run"],
-        &["run", "pc/16", "a", "-", "-"],
-        &["run", "pc/16", "a", "-", "-", "1", "1"],
-        &["run", "pc/64", "a", "-", "-", "1"],
-        &["run", "pc/32", "a", "-", "-", "1"],
-        &["run", "sc/16/64/128K", "a", "-", "-", "1"],
-        &["run", "sc/32/128/1M", "a", "-", "-", "1"],
-        &["run", "pc", "a", "-", "-", "1"],
-        &["run", "PC/16", "a", "-", "-", "1"],
-        &["run", "pc/16 ", "a", "-", "-", "1"],
-        &["run", "", "a", "-", "-", "1"],
-        &["check", "pc/16", "a", "-", "-", "1"],
-        &["trace", "pc/16", "a", "-", "-", "1"],
-        &["judge", "pc/16", "a"],
-        &["asm", "a", "b"],
-        &["dis", "a"],
-        &["make", "1", "1", "b"],
-        &["runs", "pc/16", "a", "-", "-", "1"],
-        &["--help"],
-        &["--version"],
-        &["run", "pc/16", "a", "a", "-", "1"],
-        &["run", "pc/16", "a", "-", "a", "1"],
-        &["run", "pc/16", "a", "--", "-", "1"],
-        &["run", "pc/16", "a", "", "-", "1"],
-        &["run", "pc/16", "a", "-", "-", "007"],
-        &["run", "pc/16", "a", "-", "-", ""],
-        &["run", "pc/16", "a", "-", "-", "00"],
-        &["run", "pc/16", "a", "-", "-", "-1"],
-        &["run", "pc/16", "a", "-", "-", "+1"],
-        &["run", "pc/16", "a", "-", "-", " 1"],
-        &["run", "pc/16", "a", "-", "-", "0x1"],
-        &["run", "pc/16", "a", "-", "-", "4294967296"],
-        &["run", "pc/16", "a", "-", "-", "10000000000"],
-        &["run", "pc/16", "a", "-", "-", "18446744073709551617"],
-    ] {
-        let words = words_of(alloc, words)?;
-        let mut shelf = SureShelf::new(files_of(alloc, &HEADERS)?);
-        let mut out = SureSink::new(alloc, 16)?;
-        let status = workstation(alloc, &words, &mut shelf, &mut out);
-        assert_eq!(rt; status, Status::Usage, "{words:?}");
-        assert!(rt; out.bytes().is_empty());
-    }
+    let words = Vec::new(alloc);
+    let mut shelf = SureShelf::new(Vec::new(alloc));
+    let mut out = SureSink::new(alloc, 16)?;
+    assert_eq!(rt;
+        workstation(alloc, &words, &mut shelf, &mut out),
+        Status::Usage
+    );
     Ok(())
 }
 
@@ -328,176 +343,199 @@ fn an_image_with_another_header_byte_is_not_built(rt: HostRuntime) -> Result<(),
     Ok(())
 }
 
-// Each instruction stands at the entry, where k0 is the entry's address and t0 is zero. A word with one bit of its
-// op, function, rs or rd changed is another of the seven, or not built at the tick that fetches it.
+// The number of a hexadecimal word.
+fn word_of(text: &str) -> Result<u32, Fail> {
+    match read_hex(text.as_bytes(), 8) {
+        Some(word) => Ok((word % 0x100000000) as u32),
+        None => Err(Fail::from("a word")),
+    }
+}
+
+// Asserts the answers of a table: each line has an image's words, the bound, and the answer, with bars between.
+fn assert_answers(rt: &impl Abort, alloc: Global, table: &str) -> Result<(), Fail> {
+    for line in table.lines() {
+        let mut parts = line.split('|');
+        let mut words = Vec::new(alloc);
+        for word in parts.next().ok_or("words")?.split(' ') {
+            words.push(word_of(word)?)?;
+        }
+        let steps = parts.next().ok_or("steps")?;
+        let want = parts.next().ok_or("answer")?;
+        let status = run_words(alloc, &words, steps)?;
+        let mut out = SureSink::new(alloc, 64)?;
+        write_status(&status, &mut out)?;
+        assert_eq!(rt; out.bytes().trim_ascii(), want.as_bytes(), "{line}");
+    }
+    Ok(())
+}
+
+// A word that is run at the entry, the bits that are changed in turn, and the one with which it is another of the
+// seven; k0 is the entry's address.
+const NEIGHBOURS: &str = "\
+    3c08bf00 26 31 27\n\
+    34090041 26 31 27\n\
+    00084880 26 31 99\n\
+    00084880 0 5 3\n\
+    03400008 26 31 99\n\
+    03400008 0 5 3\n\
+    8f490000 26 31 29\n\
+    af490000 26 31 29\n\
+    409b6000 11 15 99\n\
+    409b6000 21 31 30\n";
+
 #[test]
 fn a_word_beside_the_seven_is_not_built(rt: HostRuntime) -> Result<(), Fail> {
     let alloc = rt.alloc();
-    // The word, the bits that are changed in turn, and those with which it is another of the seven.
-    let special: &[u32] = &[0, 1, 2, 3, 4, 5, 26, 27, 28, 29, 30, 31];
-    let op: &[u32] = &[26, 27, 28, 29, 30, 31];
-    let move_bits: &[u32] = &[
-        11, 12, 13, 14, 15, 21, 22, 23, 24, 25, 26, 27, 28, 29, 30, 31,
-    ];
-    for (word, bits, built) in [
-        (0x3c08bf00u32, op, 27u32),
-        (0x34090041, op, 27),
-        (0x00084880, special, 3),
-        (0x03400008, special, 3),
-        (0x8f490000, op, 29),
-        (0xaf490000, op, 29),
-        (0x409b6000, move_bits, 30),
-    ] {
-        let status = run_words(alloc, &[word, 0], "7")?;
-        assert_eq!(rt; status, Status::Done, "{word:08x}");
-        for bit in bits {
-            let changed = word ^ 1u32.wrapping_shl(*bit);
-            let status = run_words(alloc, &[changed, 0], "7")?;
-            let want = if *bit == built {
+    for line in NEIGHBOURS.lines() {
+        let mut parts = line.split(' ');
+        let word = word_of(parts.next().ok_or("word")?)?;
+        let low = parts.next().ok_or("low")?.parse::<u32>()?;
+        let high = parts.next().ok_or("high")?.parse::<u32>()?;
+        let other = parts.next().ok_or("other")?.parse::<u32>()?;
+        assert_eq!(rt; run_words(alloc, &[word, 0], "7")?, Status::Done, "{line}");
+        for bit in low..high + 1 {
+            let changed = word ^ 1u32.wrapping_shl(bit);
+            let want = if bit == other {
                 Status::Done
             } else {
                 unbuilt(6, Part::Word)
             };
-            assert_eq!(rt; status, want, "{changed:08x}");
+            assert_eq!(rt;
+                run_words(alloc, &[changed, 0], "7")?,
+                want,
+                "{changed:08x}"
+            );
         }
     }
     Ok(())
 }
 
-// `lui t0,HIGH; ori t0,t0,LOW; lw t1,0(t0)`, and the same with `sw`: the third word is met at tick 8.
+// An address, and how a load and a store of a word there end.
+const EDGES: &str = "\
+    a0000000 Done Done\n\
+    a07ffffc Done Done\n\
+    a07ffffe Unbuilt Unbuilt\n\
+    a07ffffd Unbuilt Unbuilt\n\
+    a0000001 Unbuilt Unbuilt\n\
+    a0800000 Unbuilt Unbuilt\n\
+    befffffc Unbuilt Unbuilt\n\
+    bf000000 Done Done\n\
+    bf000002 Unbuilt Unbuilt\n\
+    bf000004 Unbuilt Unbuilt\n\
+    bf000008 Unbuilt Unbuilt\n\
+    bf000010 Unbuilt Unbuilt\n\
+    bf000014 Unbuilt Unbuilt\n\
+    bf000018 Unbuilt Unbuilt\n\
+    bf00001c Unbuilt Unbuilt\n\
+    bf000020 Done Done\n\
+    bf000024 Done Done\n\
+    bf000028 Unbuilt Unbuilt\n\
+    bf000ffc Unbuilt Unbuilt\n\
+    bf001000 Unbuilt Unbuilt\n\
+    bfbffffc Unbuilt Unbuilt\n\
+    bfc00000 Done Unbuilt\n\
+    bfc00ffc Done Unbuilt\n\
+    bfc01000 Unbuilt Unbuilt\n\
+    bffffffc Unbuilt Unbuilt\n\
+    00000000 Unbuilt Unbuilt\n\
+    80000000 Unbuilt Unbuilt\n\
+    9ffffffc Unbuilt Unbuilt\n\
+    c0000000 Unbuilt Unbuilt\n\
+    fffffffc Unbuilt Unbuilt\n";
+
+// `lui t0,HIGH; ori t0,t0,LOW`, and a word that loads or stores at t0 at tick 8.
+fn run_at(alloc: Global, va: u32, word: u32) -> Result<Status, AllocError> {
+    let high = 0x3c080000 | (va >> 16);
+    let low = 0x35080000 | (va & 0xffff);
+    run_words(alloc, &[high, low, word], "9")
+}
+
+fn edge_of(name: &str) -> Status {
+    if name == "Done" {
+        Status::Done
+    } else {
+        unbuilt(8, Part::Access)
+    }
+}
+
 #[test]
 fn loads_and_stores_reach_the_map_to_its_edges(rt: HostRuntime) -> Result<(), Fail> {
     let alloc = rt.alloc();
-    for (va, loads, stores) in [
-        (0xa0000000u32, true, true),
-        (0xa07ffffc, true, true),
-        (0xa07ffffe, false, false),
-        (0xa07ffffd, false, false),
-        (0xa0000001, false, false),
-        (0xa0800000, false, false),
-        (0xbefffffc, false, false),
-        (0xbf000000, true, true),
-        (0xbf000002, false, false),
-        (0xbf000004, false, false),
-        (0xbf000008, false, false),
-        (0xbf000010, false, false),
-        (0xbf000014, false, false),
-        (0xbf000018, false, false),
-        (0xbf00001c, false, false),
-        (0xbf000020, true, true),
-        (0xbf000024, true, true),
-        (0xbf000028, false, false),
-        (0xbf000ffc, false, false),
-        (0xbf001000, false, false),
-        (0xbfbffffc, false, false),
-        (0xbfc00000, true, false),
-        (0xbfc00ffc, true, false),
-        (0xbfc01000, false, false),
-        (0xbffffffc, false, false),
-        (0x00000000, false, false),
-        (0x80000000, false, false),
-        (0x9ffffffc, false, false),
-        (0xc0000000, false, false),
-        (0xfffffffc, false, false),
-    ] {
-        let high = 0x3c080000 | (va >> 16);
-        let low = 0x35080000 | (va & 0xffff);
-        for (word, built) in [(0x8d090000u32, loads), (0xad090000, stores)] {
-            let status = run_words(alloc, &[high, low, word], "9")?;
-            let want = if built {
-                Status::Done
-            } else {
-                unbuilt(8, Part::Access)
-            };
-            assert_eq!(rt; status, want, "{va:08x} {word:08x}");
-        }
+    for line in EDGES.lines() {
+        let mut parts = line.split(' ');
+        let va = word_of(parts.next().ok_or("address")?)?;
+        let load = edge_of(parts.next().ok_or("load")?);
+        let store = edge_of(parts.next().ok_or("store")?);
+        assert_eq!(rt; run_at(alloc, va, 0x8d090000)?, load, "{line}");
+        assert_eq!(rt; run_at(alloc, va, 0xad090000)?, store, "{line}");
     }
     Ok(())
 }
 
-// `lui t0,HIGH; ori t0,t0,LOW; jr t0; nop`: the target is fetched at tick 10.
+// `lui t0,HIGH; ori t0,t0,LOW; jr t0; nop`: the target is fetched at tick 10. The last words of RAM and of the PROM are
+// zero, and the fetch after them is refused. The first word of the PROM's handler is none of the seven.
+const TARGETS: &str = "\
+    3c08a000 35080000 01000008 00000000|20|Done\n\
+    3c08a07f 3508fffc 01000008 00000000|20|Unbuilt 11 Access\n\
+    3c08bfc0 35080ffc 01000008 00000000|20|Unbuilt 11 Access\n\
+    3c08a080 35080000 01000008 00000000|20|Unbuilt 10 Access\n\
+    3c08a000 35080002 01000008 00000000|20|Unbuilt 10 Access\n\
+    3c08bf00 35080000 01000008 00000000|20|Unbuilt 10 Access\n\
+    3c08bfc0 35081000 01000008 00000000|20|Unbuilt 10 Access\n\
+    3c088001 35080000 01000008 00000000|20|Unbuilt 10 Access\n\
+    3c08c001 35080000 01000008 00000000|20|Unbuilt 10 Access\n\
+    3c080001 35080000 01000008 00000000|20|Unbuilt 10 Access\n\
+    3c08bfc0 35080380 01000008 00000000|20|Unbuilt 10 Word\n";
+
 #[test]
 fn fetches_reach_the_map_to_its_edges(rt: HostRuntime) -> Result<(), Fail> {
-    let alloc = rt.alloc();
-    for (va, want) in [
-        (0xa0000000u32, Status::Done),
-        // The last word of RAM and of the PROM are zero; the fetch after them is refused.
-        (0xa07ffffc, unbuilt(11, Part::Access)),
-        (0xbfc00ffc, unbuilt(11, Part::Access)),
-        (0xa0800000, unbuilt(10, Part::Access)),
-        (0xa0000002, unbuilt(10, Part::Access)),
-        (0xbf000000, unbuilt(10, Part::Access)),
-        (0xbfc01000, unbuilt(10, Part::Access)),
-        (0x80010000, unbuilt(10, Part::Access)),
-        (0xc0010000, unbuilt(10, Part::Access)),
-        (0x00010000, unbuilt(10, Part::Access)),
-        // The handler's first word is no word of the seven.
-        (0xbfc00380, unbuilt(10, Part::Word)),
-    ] {
-        let high = 0x3c080000 | (va >> 16);
-        let low = 0x35080000 | (va & 0xffff);
-        let status = run_words(alloc, &[high, low, 0x01000008, 0], "20")?;
-        assert_eq!(rt; status, want, "{va:08x}");
-    }
-    Ok(())
+    assert_answers(&rt, rt.alloc(), TARGETS)
 }
 
-// `ori t0,zero,STATUS; mtc0 t0,Status`: the next fetch, at tick 8, is in the mode that Status gives.
+// `ori t0,zero,STATUS; mtc0 t0,Status; nop`: the fetch at tick 8 is in the mode that Status gives.
+const MODES: &str = "\
+    34080000 40886000 00000000|9|Done\n\
+    34080008 40886000 00000000|9|Unbuilt 8 Access\n\
+    34080010 40886000 00000000|9|Unbuilt 8 Access\n\
+    34080018 40886000 00000000|9|Unbuilt 8 Access\n\
+    3408000a 40886000 00000000|9|Done\n\
+    34080014 40886000 00000000|9|Done\n\
+    3408ff01 40886000 00000000|9|Done\n";
+
 #[test]
 fn a_fetch_outside_kernel_mode_is_not_built(rt: HostRuntime) -> Result<(), Fail> {
-    let alloc = rt.alloc();
-    for (status, kernel) in [
-        (0x00u32, true),
-        (0x08, false),
-        (0x10, false),
-        (0x18, false),
-        (0x0a, true),
-        (0x14, true),
-        (0xff01, true),
-    ] {
-        let answer = run_words(alloc, &[0x34080000 | status, 0x40886000, 0], "9")?;
-        let want = if kernel {
-            Status::Done
-        } else {
-            unbuilt(8, Part::Access)
-        };
-        assert_eq!(rt; answer, want, "{status:x}");
-    }
-    Ok(())
+    assert_answers(&rt, rt.alloc(), MODES)
 }
+
+// A word that is not built stands at tick 7.
+const BOUNDS: &str = "\
+    00000000 20000000|7|Done\n\
+    00000000 20000000|8|Unbuilt 7 Word\n";
 
 #[test]
 fn the_steps_below_the_bound_alone_count(rt: HostRuntime) -> Result<(), Fail> {
-    let alloc = rt.alloc();
-    // A word that is not built stands at tick 7.
-    assert_eq!(rt; run_words(alloc, &[0, 0x20000000], "7")?, Status::Done);
-    assert_eq!(rt;
-        run_words(alloc, &[0, 0x20000000], "8")?,
-        unbuilt(7, Part::Word)
-    );
-    Ok(())
+    assert_answers(&rt, rt.alloc(), BOUNDS)
 }
 
 #[test]
 fn each_status_has_its_number_and_its_line(rt: HostRuntime) -> Result<(), Fail> {
-    for (status, number, line) in [
-        (Status::Done, 0u8, "Done\n"),
-        (Status::Usage, 2, "Usage\n"),
-        (Status::ReadFault, 3, "ReadFault\n"),
-        (Status::WriteFault, 4, "WriteFault\n"),
-        (Status::Memory, 8, "Memory\n"),
-        (unbuilt(0, Part::Image), 11, "Unbuilt 0 Image\n"),
-        (
-            unbuilt(4294967294, Part::Word),
-            11,
-            "Unbuilt 4294967294 Word\n",
-        ),
-        (unbuilt(7, Part::Access), 11, "Unbuilt 7 Access\n"),
+    let mut out = SureSink::new(rt.alloc(), 256)?;
+    for (status, number) in [
+        (Status::Done, 0u8),
+        (Status::Usage, 2),
+        (Status::ReadFault, 3),
+        (Status::WriteFault, 4),
+        (Status::Memory, 8),
+        (unbuilt(0, Part::Image), 11),
+        (unbuilt(4294967294, Part::Word), 11),
+        (unbuilt(7, Part::Access), 11),
     ] {
         assert_eq!(rt; status_number(&status), number);
-        let mut out = SureSink::new(rt.alloc(), 64)?;
         write_status(&status, &mut out)?;
-        assert_eq!(rt; out.bytes(), line.as_bytes());
     }
+    let lines: &[u8] =
+        b"Done\nUsage\nReadFault\nWriteFault\nMemory\nUnbuilt 0 Image\nUnbuilt 4294967294 Word\n\
+        Unbuilt 7 Access\n";
+    assert_eq!(rt; out.bytes(), lines);
     Ok(())
 }
