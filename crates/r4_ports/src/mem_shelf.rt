@@ -79,7 +79,8 @@ impl MemShelf {
     }
     /// What the call of this number asked for, and its name's bytes, where it is told and was made.
     pub fn call(&self, number: usize) -> Option<(CallKind, &[u8])>
-        ensures { option_map (λ call. record { kind = call.0; name = call.1.now }) result ≡ told_call self.now.asked number }
+        ensures { option_map (λ call. record { kind = call.0; name = call.1.now }) result
+            ≡ told_call self.now.asked number }
     {
         self.asked.get(number)
     }
