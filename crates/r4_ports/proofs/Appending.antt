@@ -1,12 +1,9 @@
 -- What is appended to a buffer of texts keeps the texts before it, and adds one.
-use Rattle.std.proofs.Common.{◌≡◌, ◌≤◌, ◌+◌, ◌-◌, ◌*◌, ℕ, Bool, true, List, [], ◌∷◌, ◌++◌, Option, Some, map, length, refl, ap, sym, ◌∙◌, arith, subst, unwrap_or, slice_get, zero, suc, length-append}
+use Rattle.std.proofs.Common.{◌≡◌, ◌+◌, ℕ, List, [], ◌∷◌, ◌++◌, Some, map, length, ap, ◌∙◌, arith, subst, unwrap_or, slice_get, zero, suc, length-append}
 use Rattle.std.proofs.lemmas.Grind.{common_steps}
-use Rattle.std.proofs.lemmas.Bool.{le-leb}
-use Rattle.std.proofs.lemmas.List.Sums.{sum_by-append}
-use Rattle.r4_ports.specs.Told.{Call}
 use Rattle.r4_ports.specs.Spans.{text_at, span_after, Within}
 use Rattle.r4_ports.specs.PutLog.{put_at, AllPutsWithin}
-use Rattle.r4_ports.specs.CallLog.{call_at, call_log, calls_size, asked_after, AllCallsWithin}
+use Rattle.r4_ports.specs.CallLog.{call_at, AllCallsWithin}
 use Rattle.r4_ports.specs.declared.CallKind.{CallKind}
 use Rattle.r4_ports.specs.declared.spans.Span.{Span}
 use Rattle.r4_ports.specs.declared.put_log.PutRecord.{PutRecord}

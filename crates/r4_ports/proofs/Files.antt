@@ -1,5 +1,5 @@
 -- The finite map of a list of files has for a name what a search of the list finds.
-use Rattle.std.proofs.Common.{◌≡◌, ℕ, List, [], ◌∷◌, ◌++◌, map, cond, if◌then◌else◌, true, false, refl, sym, ap, ◌∙◌, String, Vec, string_bytes, Option, Some, None, Bool, take, unwrap_or}
+use Rattle.std.proofs.Common.{◌≡◌, ℕ, List, [], ◌∷◌, ◌++◌, map, cond, if◌then◌else◌, true, false, refl, ap, ◌∙◌, String, Vec, string_bytes, Option, Some, None, Bool, take}
 use Rattle.std.specs.Str.{bytes_eq}
 use Rattle.std.specs.declared.alloc.Global.{Global}
 use Rattle.std.specs.Ordering.{nat_cmp}

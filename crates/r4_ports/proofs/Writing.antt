@@ -1,6 +1,6 @@
 -- The laws of writing: nothing is written by no text, and one text after another is their concatenation.
-use Rattle.std.proofs.Common.{◌≡◌, ◌≤◌, ◌+◌, ◌-◌, ℕ, Bool, true, false, List, [], ◌∷◌, ◌++◌, Option, Some, None, refl, ap, sym, ◌∙◌, subst, arith, append_assoc, append-nil}
-use Rattle.r4_ports.specs.Told.{Appended, AppendedPrefix, Rose}
+use Rattle.std.proofs.Common.{◌≡◌, ◌≤◌, ℕ, Bool, true, false, List, [], ◌++◌, Option, Some, None, refl, ap, sym, ◌∙◌, subst, arith, append_assoc, append-nil}
+use Rattle.r4_ports.specs.Told.{Appended, AppendedPrefix}
 use Rattle.r4_ports.specs.Writing.{Stand, Puts, Wrote, FailedFrom}
 
 -- what a sink tells, tells it with nothing appended

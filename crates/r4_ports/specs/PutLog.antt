@@ -1,5 +1,5 @@
 -- Puts, one after another, and the files after them.
-use Rattle.std.specs.Prelude.{ℕ, Bool, ◌+◌, ◌-◌, List, [], ◌∷◌, ◌++◌, map, length, nat_le, bytes_eq, Option, Some, if◌then◌else◌}
+use Rattle.std.specs.Prelude.{ℕ, ◌+◌, ◌-◌, List, [], ◌∷◌, ◌++◌, map, length, bytes_eq, Option, Some, if◌then◌else◌}
 use Rattle.std.specs.FinMap.{insert}
 use Rattle.r4_ports.specs.Told.{Files}
 use Rattle.r4_ports.specs.Spans.{text_at, Within}

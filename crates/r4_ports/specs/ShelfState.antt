@@ -1,5 +1,5 @@
 -- How a shelf in memory stands, and what each call does to it.
-use Rattle.std.specs.Prelude.{ℕ, Bool, true, false, ◌||◌, ◌+◌, ◌-◌, List, [], length, is_none, nat_lt, Option, Some, None, if◌then◌else◌}
+use Rattle.std.specs.Prelude.{ℕ, Bool, true, false, ◌||◌, ◌-◌, List, [], is_none, nat_lt, Option, Some, None, if◌then◌else◌}
 use Rattle.std.specs.FinMap.{get, insert}
 use Rattle.r4_ports.specs.Told.{Files, Call, fetch_of, put_of}
 use Rattle.r4_ports.specs.CallLog.{asked_after}

@@ -2,7 +2,7 @@
 --
 -- A port may tell its content or keep silent on it, so each content is an option: `Some` is told, `None` is
 -- not. What is not told now is told never again. Source: this project's own rules for its outside.
-use Rattle.std.specs.Prelude.{◌≡◌, ◌≤◌, ◌+◌, ◌-◌, ◌^◌, ℕ, min, List, [], ◌∷◌, ◌++◌, take, Option, Some, None, Result, OnErr, unwrap_or}
+use Rattle.std.specs.Prelude.{◌≡◌, ◌≤◌, ◌+◌, ◌-◌, ◌^◌, ℕ, min, List, [], ◌++◌, take, Option, Some, None, Result, OnErr, unwrap_or}
 use Rattle.std.specs.Ordering.{nat_cmp}
 use Rattle.std.specs.Cmp.Lexicographic.{slice_cmp}
 use Rattle.std.specs.FinMap.{FinMap, get, insert}

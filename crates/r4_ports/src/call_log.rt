@@ -39,7 +39,12 @@ impl Model for CallLog {
 
     ghost view = { λ s. call_log s.buffer.items s.records.items s.is_told };
 
-    ghost invariant = { λ s. (4096 ≤ vec_capacity s.buffer) × (512 ≤ vec_capacity s.records) × (length s.buffer.items + 8 * length s.records.items ≤ 4096) × (calls_size (map (call_at s.buffer.items) s.records.items) ≡ length s.buffer.items + 8 * length s.records.items) × AllCallsWithin (length s.buffer.items) s.records.items };
+    ghost invariant = { λ s.
+        (4096 ≤ vec_capacity s.buffer) × (512 ≤ vec_capacity s.records)
+        × (length s.buffer.items + 8 * length s.records.items ≤ 4096)
+        × (calls_size (map (call_at s.buffer.items) s.records.items)
+        ≡ length s.buffer.items + 8 * length s.records.items)
+        × AllCallsWithin (length s.buffer.items) s.records.items };
 }
 
 impl CallLog {
@@ -69,7 +74,8 @@ impl CallLog {
 
     /// What the call of this number asked for, and its name's bytes, where it is told and was made.
     pub fn get(&self, number: usize) -> Option<(CallKind, &[u8])>
-        ensures { option_map (λ call. record { kind = call.0; name = call.1.now }) result ≡ told_call self.now number }
+        ensures { option_map (λ call. record { kind = call.0; name = call.1.now }) result
+            ≡ told_call self.now number }
     {
         if self.is_told {
             call_in(&self.buffer, &self.records, number)
@@ -86,7 +92,8 @@ fn call_in<'a>(
     number: usize,
 ) -> Option<(CallKind, &'a [u8])>
     requires { AllCallsWithin (length buffer.now) records.now }
-    ensures { option_map (λ call. record { kind = call.0; name = call.1.now }) result ≡ slice_get (map (call_at buffer.now) records.now) number }
+    ensures { option_map (λ call. record { kind = call.0; name = call.1.now }) result
+        ≡ slice_get (map (call_at buffer.now) records.now) number }
 {
     match records.get(number) {
         Some(call) => Some((call.kind, text_at(buffer, call.name))),
@@ -99,7 +106,8 @@ fn record_call(buffer: &mut Vec<u8>, records: &mut Vec<CallRecord>, kind: CallKi
     requires buffer_room { length buffer.old.items + length name.now ≤ vec_capacity buffer.old }
     requires record_room { length records.old.items < vec_capacity records.old }
     requires within { AllCallsWithin (length buffer.old.items) records.old.items }
-    ensures calls { map (call_at buffer.new.items) records.new.items ≡ map (call_at buffer.old.items) records.old.items ++ record { kind = kind; name = name.now } ∷ [] }
+    ensures calls { map (call_at buffer.new.items) records.new.items
+        ≡ map (call_at buffer.old.items) records.old.items ++ record { kind = kind; name = name.now } ∷ [] }
     ensures within { AllCallsWithin (length buffer.new.items) records.new.items }
     ensures buffer_length { length buffer.new.items ≡ length buffer.old.items + length name.now }
     ensures record_count { length records.new.items ≡ length records.old.items + 1 }

@@ -77,9 +77,11 @@ impl MemShelf {
     {
         self.puts.latest(name, find_file(&self.files, name))
     }
+
     /// What the call of this number asked for, and its name's bytes, where it is told and was made.
     pub fn call(&self, number: usize) -> Option<(CallKind, &[u8])>
-        ensures { option_map (λ call. record { kind = call.0; name = call.1.now }) result ≡ told_call self.now.asked number }
+        ensures { option_map (λ call. record { kind = call.0; name = call.1.now }) result
+            ≡ told_call self.now.asked number }
     {
         self.asked.get(number)
     }

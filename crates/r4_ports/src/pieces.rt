@@ -18,7 +18,8 @@ pub type Line = ArrayVec<u8, 128>;
 
 /// Writes a line, unless a write failed before.
 pub fn put_line<K: Sink>(line: &Line, out: &mut K, failed: &mut bool)
-    ensures { Puts (stand K.written K.faults out.old failed.old) (stand K.written K.faults out.new failed.new) line.now.items }
+    ensures { Puts (stand K.written K.faults out.old failed.old)
+        (stand K.written K.faults out.new failed.new) line.now.items }
 {
     put_piece(line.as_slice(), out, failed);
 }
@@ -26,7 +27,8 @@ pub fn put_line<K: Sink>(line: &Line, out: &mut K, failed: &mut bool)
 // Writes a piece, unless it is empty or a write failed before.
 fn put_piece<K: Sink>(piece: &[u8], out: &mut K, failed: &mut bool)
     requires { length piece.now ≤ 128 }
-    ensures { Puts (stand K.written K.faults out.old failed.old) (stand K.written K.faults out.new failed.new) piece.now }
+    ensures { Puts (stand K.written K.faults out.old failed.old)
+        (stand K.written K.faults out.new failed.new) piece.now }
 {
     if !*failed && !piece.is_empty() {
         match out.write(piece) {
@@ -38,7 +40,8 @@ fn put_piece<K: Sink>(piece: &[u8], out: &mut K, failed: &mut bool)
 
 /// Writes a text of any length in pieces, unless a write failed before.
 pub fn put_all<K: Sink>(text: &[u8], out: &mut K, failed: &mut bool)
-    ensures { Puts (stand K.written K.faults out.old failed.old) (stand K.written K.faults out.new failed.new) text.now }
+    ensures { Puts (stand K.written K.faults out.old failed.old)
+        (stand K.written K.faults out.new failed.new) text.now }
 {
     for piece in text.chunks(PIECE) {
         put_piece(piece, out, failed);

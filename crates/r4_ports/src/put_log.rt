@@ -31,7 +31,10 @@ impl Model for PutLog {
 
     ghost view = { λ s. put_log s.buffer.items s.records.items s.left };
 
-    ghost invariant = { λ s. (length s.buffer.items + s.left ≤ vec_capacity s.buffer) × (length s.records.items + s.left / 16 ≤ vec_capacity s.records) × AllPutsWithin (length s.buffer.items) s.records.items };
+    ghost invariant = { λ s.
+        (length s.buffer.items + s.left ≤ vec_capacity s.buffer)
+        × (length s.records.items + s.left / 16 ≤ vec_capacity s.records)
+        × AllPutsWithin (length s.buffer.items) s.records.items };
 }
 
 impl PutLog {
@@ -76,9 +79,11 @@ fn record_put(buffer: &mut Vec<u8>, records: &mut Vec<PutRecord>, name: &str, by
     requires buffer_room { length buffer.old.items + (length name.now + length bytes.now) ≤ vec_capacity buffer.old }
     requires record_room { length records.old.items < vec_capacity records.old }
     requires within { AllPutsWithin (length buffer.old.items) records.old.items }
-    ensures puts { map (put_at buffer.new.items) records.new.items ≡ map (put_at buffer.old.items) records.old.items ++ (name.now, bytes.now) ∷ [] }
+    ensures puts { map (put_at buffer.new.items) records.new.items
+        ≡ map (put_at buffer.old.items) records.old.items ++ (name.now, bytes.now) ∷ [] }
     ensures within { AllPutsWithin (length buffer.new.items) records.new.items }
-    ensures buffer_length { length buffer.new.items ≡ length buffer.old.items + (length name.now + length bytes.now) }
+    ensures buffer_length { length buffer.new.items
+        ≡ length buffer.old.items + (length name.now + length bytes.now) }
     ensures record_count { length records.new.items ≡ length records.old.items + 1 }
     ensures buffer_capacity { vec_capacity buffer.old ≤ vec_capacity buffer.new }
     ensures record_capacity { vec_capacity records.old ≤ vec_capacity records.new }
@@ -99,7 +104,8 @@ fn latest_in<'a>(
     before: Option<&'a [u8]>,
 ) -> Option<&'a [u8]>
     requires { AllPutsWithin (length buffer.now) records.now }
-    ensures { option_copied result ≡ latest (option_copied before.entry) (map (put_at buffer.now) records.now) name.now }
+    ensures { option_copied result
+        ≡ latest (option_copied before.entry) (map (put_at buffer.now) records.now) name.now }
 {
     let mut found = before;
     for put in records {

@@ -1,5 +1,4 @@
-use Rattle.std.proofs.Common.{◌∙◌, sym, ap, refl, length}
-use Rattle.std.specs.Option.{option_map}
+use Rattle.std.proofs.Common.{refl, length}
 use Rattle.std.proofs.lemmas.Option.{slice_get-map, slice_get_read, slice_get_past}
 use Rattle.r4_ports.specs.CallLog.{call_at}
 use Rattle.r4_ports.proofs.Appending.{call_within}

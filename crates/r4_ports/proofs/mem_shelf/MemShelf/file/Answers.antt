@@ -1,8 +1,5 @@
-use Rattle.std.proofs.Common.{◌∙◌, sym, ap}
-use Rattle.std.specs.Option.{option_copied}
-use Rattle.std.specs.FinMap.{get}
+use Rattle.std.proofs.Common.{sym}
 use Rattle.r4_ports.specs.FileList.{files_of}
-use Rattle.r4_ports.specs.PutLog.{latest}
 use Rattle.r4_ports.proofs.Files.{get-files_after}
 use Rattle.r4_ports.proofs.mem_shelf.MemShelf.file.Goals as goal
 
