@@ -4,6 +4,14 @@ ghost use Rattle.flat_ram.specs.Bytes as law;
 
 use byteorder::{BigEndian, ByteOrder};
 
+/// The half at an offset.
+pub fn half_at(bytes: &[u8], at: usize) -> u16
+    requires { at + 2 ≤ length bytes.now }
+    ensures { result ≡ law.half_at bytes.now at }
+{
+    BigEndian::read_u16(&bytes[at..])
+}
+
 /// The word at an offset.
 pub fn word_at(bytes: &[u8], at: usize) -> u32
     requires { at + 4 ≤ length bytes.now }
