@@ -16,7 +16,11 @@ memory_of bytes segment = bytes_at bytes segment.offset segment.file_size ++ zer
 unfoldable pub stored : List ℕ → List ℕ → Segment → List ℕ
 stored bytes ram segment = if is_load segment then put_bytes ram (physical segment.address) (memory_of bytes segment) else ram
 
+-- the RAM after the segments of some headers were stored, in their order
+abbrev pub stored_all : List ℕ → List ℕ → List ℕ → List ℕ
+stored_all bytes ram headers = fold (λ ram at. stored bytes ram (segment_at bytes at)) ram headers
+
 -- the RAM after an image's segments were stored in the order of their headers, so that a later one stands over an
 -- earlier one; all other bytes are as they were, and RAM that was zero is zero there
 unfoldable pub loaded : List ℕ → List ℕ → List ℕ
-loaded bytes ram = fold (λ ram at. stored bytes ram (segment_at bytes at)) ram (headers_of bytes)
+loaded bytes ram = stored_all bytes ram (headers_of bytes)

@@ -68,6 +68,10 @@ is_load segment = segment.kind == 1
 abbrev pub is_empty : Segment → Bool
 is_empty segment = (segment.file_size == 0) && (segment.memory_size == 0)
 
+-- a segment whose bytes are stored
+abbrev pub is_stored : Segment → Bool
+is_stored segment = is_load segment && not (is_empty segment)
+
 -- the segment has at least the memory that the file fills, its bytes lie in the file, and its memory lies in kseg0 or
 -- kseg1 and in RAM
 abbrev pub is_in_range : ℕ → Segment → Bool
@@ -79,8 +83,7 @@ is_in_range size segment =
 
 -- a header of a segment that is stored and not in range
 unfoldable pub breaks_range : List ℕ → ℕ → Bool
-breaks_range bytes at =
-    is_load (segment_at bytes at) && not (is_empty (segment_at bytes at)) && not (is_in_range (length bytes) (segment_at bytes at))
+breaks_range bytes at = is_stored (segment_at bytes at) && not (is_in_range (length bytes) (segment_at bytes at))
 
 -- Range: each segment that is stored is in range; the offset is that of the first header that breaks it
 unfoldable pub range_fault : List ℕ → Option ImageFault

@@ -38,7 +38,8 @@ impl<'a> Model for Image<'a> {
 impl<'a> Image<'a> {
     /// The bytes of the file.
     pub fn bytes(&self) -> &'a [u8]
-        ensures { result.now ≡ self.now }
+        ensures value { result.now ≡ self.now }
+        ensures rules { law.image_fault self.now ≡ None }
     {
         self.bytes
     }
@@ -65,6 +66,7 @@ impl<'a> Image<'a> {
     }
 }
 
+#[tactic(auto, using(crate::proofs::Accepted::broken_short, crate::proofs::Accepted::broken_magic, crate::proofs::Accepted::broken_class, crate::proofs::Accepted::broken_machine, crate::proofs::Accepted::broken_kind, crate::proofs::Accepted::broken_table, crate::proofs::Accepted::broken_range, crate::proofs::Accepted::broken_entry, crate::proofs::Accepted::none_broken))]
 fn check(bytes: &[u8]) -> Result<(), ImageFault>
     requires { length bytes.now ≤ 4294967294 }
     ensures { law.IsCheckOf (law.image_fault bytes.now) result }
@@ -79,6 +81,7 @@ fn check(bytes: &[u8]) -> Result<(), ImageFault>
     rules::check_entry(bytes)
 }
 
+#[tactic(auto, using(crate::proofs::Accepted::accepted_length))]
 /// The image of a file's bytes, where they meet all rules, and else the first broken rule.
 pub fn read_image<'a>(bytes: &'a [u8]) -> Result<Image<'a>, ImageFault>
     requires { length bytes.now ≤ 4294967294 }

@@ -1,5 +1,6 @@
 // The rules that a file must meet, in the order in which they count.
-ghost use Rattle.std.specs.Prelude.{◌≡◌, ◌+◌, ◌*◌, ◌≤◌, ◌<◌, ◌^◌, length, OnOk};
+ghost use Rattle.std.specs.Prelude.{◌≡◌, ◌+◌, ◌*◌, ◌≤◌, ◌<◌, ◌^◌, length, OnOk, IfSome};
+ghost use Rattle.std.specs.List.{find};
 ghost use Rattle.elf_image.specs.Header as header;
 ghost use Rattle.elf_image.specs.Rules as law;
 
@@ -93,7 +94,8 @@ pub fn check_kind(bytes: &[u8]) -> Result<(), ImageFault>
 #[tactic(auto, unfolding(crate::specs::Rules::table_fault))]
 pub fn check_table(bytes: &[u8]) -> Result<(), ImageFault>
     requires { 52 ≤ length bytes.now }
-    ensures { law.IsCheckOf (law.table_fault bytes.now) result }
+    ensures check { law.IsCheckOf (law.table_fault bytes.now) result }
+    ensures table { OnOk result (header.table_of bytes.now + 32 * header.count_of bytes.now ≤ length bytes.now) }
 {
     let count = half_at(bytes, 44);
     let size = half_at(bytes, 42);
@@ -117,17 +119,39 @@ fn is_in_range(size: usize, segment: &Segment) -> bool
     segment.file_size <= segment.memory_size && file_end <= size as u64 && unmapped && memory_end <= RAM_SIZE
 }
 
+/// Whether a segment's bytes are stored.
+pub fn is_stored(segment: &Segment) -> bool
+    ensures { result ≡ law.is_stored segment.now }
+{
+    let is_empty = segment.file_size == 0 && segment.memory_size == 0;
+    segment.kind == 1 && !is_empty
+}
+
 #[tactic(auto, unfolding(crate::specs::Rules::breaks_range))]
 fn breaks_range(bytes: &[u8], at: usize) -> bool
     requires { at + 32 ≤ length bytes.now }
     ensures { result ≡ law.breaks_range bytes.now at }
 {
     let segment = segment_at(bytes, at);
-    let is_stored = segment.kind == 1 && (segment.file_size != 0 || segment.memory_size != 0);
-    is_stored && !is_in_range(bytes.len(), &segment)
+    is_stored(&segment) && !is_in_range(bytes.len(), &segment)
 }
 
-/// Checks the segments, of which so many program headers stand at an offset.
+// The offset of the first of so many program headers, from an offset on, that breaks the rule of ranges.
+fn first_bad_header(bytes: &[u8], table: usize, count: usize) -> Option<usize>
+    requires { table + 32 * count ≤ length bytes.now }
+    ensures value { result ≡ find (law.breaks_range bytes.now) (header.headers_from table count) }
+    ensures within { IfSome result (λ at. at ≤ length bytes.now) }
+{
+    for index in 0..count {
+        let at = table + 32 * index;
+        if breaks_range(bytes, at) {
+            return Some(at);
+        }
+    }
+    None
+}
+
+/// Checks the segments that are stored.
 #[tactic(auto, unfolding(crate::specs::Rules::range_fault))]
 pub fn check_segments(bytes: &[u8]) -> Result<(), ImageFault>
     requires whole { 52 ≤ length bytes.now }
@@ -135,17 +159,13 @@ pub fn check_segments(bytes: &[u8]) -> Result<(), ImageFault>
     requires small { length bytes.now < 2 ^ 32 }
     ensures { law.IsCheckOf (law.range_fault bytes.now) result }
 {
-    let table = word_at(bytes, 28) as usize;
-    for index in 0..half_at(bytes, 44) as usize {
-        let at = table + 32 * index;
-        if breaks_range(bytes, at) {
-            return Err(ImageFault {
-                rule: ImageRule::Range,
-                offset: at as u32,
-            });
-        }
+    match first_bad_header(bytes, word_at(bytes, 28) as usize, half_at(bytes, 44) as usize) {
+        Some(at) => Err(ImageFault {
+            rule: ImageRule::Range,
+            offset: at as u32,
+        }),
+        None => Ok(()),
     }
-    Ok(())
 }
 
 /// Checks the entry.
