@@ -1,6 +1,7 @@
 -- What the rules say of an image.
-use Rattle.std.proofs.Common.{◌≡◌, ℕ, ◌+◌, ◌*◌, ◌≤◌, Bool, true, false, List, [], ◌∷◌, length, refl, if◌then◌else◌, Option, Some, None}
+use Rattle.std.proofs.Common.{◌≡◌, ℕ, ◌+◌, ◌*◌, ◌≤◌, ◌<◌, Bool, true, false, List, [], ◌∷◌, length, refl, arith, if◌then◌else◌, Option, Some, None}
 use Rattle.std.specs.List.{find}
+use Rattle.elf_image.proofs.Table.{good_at}
 use Rattle.std.specs.Option.{option_map}
 use Rattle.std.proofs.lemmas.Bool.{leb-true}
 use Rattle.elf_image.specs.declared.rules.ImageFault.{ImageFault}
@@ -91,3 +92,11 @@ none_mapped (Some at) is = absurd (cc)
 pub accepted_range : (bytes : List ℕ) → image_fault bytes ≡ None → find (breaks_range bytes) (headers_of bytes) ≡ None
 unfolding range_fault
 accepted_range bytes is = none_mapped _ (keeps_rules bytes is).range
+
+-- an image's program headers lie in the file, and are in range
+pub accepted_header : (bytes : List ℕ) (table at count index : ℕ) → image_fault bytes ≡ None → table ≡ table_of bytes → count ≡ count_of bytes → index < count → at ≡ table + 32 * index →
+    (at + 32 ≤ length bytes) × (breaks_range bytes at ≡ false)
+accepted_header bytes table at count index is t c lt here =
+    let lies = accepted_table bytes is in
+    let fits : at + 32 ≤ length bytes = omega arith in
+    (fits, good_at bytes (table_of bytes) at (count_of bytes) index (accepted_range bytes is) (omega arith) (omega arith))

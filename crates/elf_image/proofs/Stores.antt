@@ -1,8 +1,7 @@
 -- One segment: where it is stored, and what that does.
-use Rattle.std.proofs.Common.{◌≡◌, ◌==◌, ℕ, zero, ◌+◌, ◌-◌, Bool, true, false, ◌&&◌, not, List, [], ◌∷◌, ◌++◌, length, take, drop, refl, sym, ap, ◌∙◌, add-zero, length-append, subst, arith, if◌then◌else◌}
-use Rattle.std.proofs.lemmas.Bool.{eqb-true, and_parts}
+use Rattle.std.proofs.Common.{◌≡◌, ◌==◌, ℕ, ◌+◌, ◌-◌, ◌≤◌, nat_le, Bool, true, false, ◌&&◌, not, List, [], ◌∷◌, ◌++◌, length, take, drop, refl, sym, ap, ◌∙◌, add-zero, length-append, subst, arith, if◌then◌else◌}
+use Rattle.std.proofs.lemmas.Bool.{eqb-true, leb-true, and_parts}
 use Rattle.std.proofs.lemmas.List.{take-append-drop, length-take}
-use Rattle.std.proofs.lemmas.Grind.{common_steps}
 use Rattle.flat_ram.specs.Bytes.{bytes_at, put_bytes, zeros_of}
 use Rattle.flat_ram.proofs.Replaced.{length_zeros_of}
 use Rattle.elf_image.specs.declared.segments.Segment.{Segment}
@@ -52,4 +51,8 @@ pub stored_not : (bytes ram : List ℕ) (segment : Segment) → is_stored segmen
 unfolding stored
 stored_not bytes ram segment is =
     not_stored (is_load segment) (is_empty segment) ram (put_bytes ram (physical segment.address) (memory_of bytes segment)) is
-      (λ empty. put_nothing ram (physical segment.address) (memory_of bytes segment) (no_memory bytes segment empty))
+    (λ empty. put_nothing ram (physical segment.address) (memory_of bytes segment) (no_memory bytes segment empty))
+
+-- the bytes of a segment in range lie in the file
+pub file_in_range : (size : ℕ) (segment : Segment) → is_in_range size segment ≡ true → segment.offset + segment.file_size ≤ size
+file_in_range size segment is = leb-true _ _ (and_parts (nat_le segment.file_size segment.memory_size) (nat_le (segment.offset + segment.file_size) size) (and_parts _ _ (and_parts _ _ is).0).0).1

@@ -1,5 +1,5 @@
 -- Walking down the table of program headers.
-use Rattle.std.proofs.Common.{◌≡◌, ℕ, zero, suc, ◌+◌, ◌-◌, ◌*◌, ◌<◌, Bool, true, false, List, [], ◌∷◌, refl, sym, ap, ◌∙◌, arith, Option, Some, None}
+use Rattle.std.proofs.Common.{◌≡◌, ℕ, zero, suc, ◌+◌, ◌-◌, ◌*◌, ◌<◌, Bool, true, false, List, [], ◌∷◌, refl, sym, ap, ◌∙◌, subst, arith, Some, None}
 use Rattle.std.specs.List.{find}
 use Rattle.elf_image.specs.Header.{headers_from, segment_at}
 use Rattle.elf_image.specs.Rules.{breaks_range}
@@ -48,3 +48,11 @@ stored_past_header bytes ram at count next rest n c = sym (ap (stored_all bytes 
 
 pub stored_no_header : (bytes ram : List ℕ) (at count : ℕ) → count ≡ 0 → stored_all bytes ram (headers_from at count) ≡ ram
 stored_no_header bytes ram at count none = ap (stored_all bytes ram) (no_headers at count none)
+
+-- no header of a table in which none is bad is bad
+pub good_at : (bytes : List ℕ) (table at count index : ℕ) → find (breaks_range bytes) (headers_from table count) ≡ None → index < count → at ≡ table + 32 * index → breaks_range bytes at ≡ false
+good_at bytes table at count zero none lt is = subst (λ a. breaks_range bytes a ≡ false) (omega arith) (good_header bytes table count lt none)
+good_at bytes table at count (suc index) none lt is =
+    let good = good_header bytes table count (omega arith) none in
+    let rest : find (breaks_range bytes) (headers_from (table + 32) (count - 1)) ≡ None = find_past_header bytes table count (table + 32) (count - 1) refl (omega arith) good ∙ none in
+    good_at bytes (table + 32) at (count - 1) index rest (omega arith) (omega arith)

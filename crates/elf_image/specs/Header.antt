@@ -2,7 +2,7 @@
 -- standard.
 -- Source: System V Application Binary Interface, Object Files: "ELF Header" and "Program Header" (32-bit), with the
 -- MIPS RISC Processor Supplement for EM_MIPS.
-use Rattle.std.specs.Prelude.{ℕ, zero, suc, ◌+◌, List, [], ◌∷◌, map}
+use Rattle.std.specs.Prelude.{ℕ, zero, suc, ◌+◌, List, [], ◌∷◌}
 use Rattle.flat_ram.specs.Bytes.{half_at, word_at}
 use Rattle.elf_image.specs.declared.segments.Segment.{Segment}
 
@@ -38,7 +38,8 @@ segment_at bytes at =
       offset = word_at bytes (at + 4);
       address = word_at bytes (at + 8);
       file_size = word_at bytes (at + 16);
-      memory_size = word_at bytes (at + 20) }
+      memory_size = word_at bytes (at + 20);
+    }
 
 -- the offsets of so many program headers of 32 bytes, one after the other
 unfoldable pub headers_from : ℕ → ℕ → List ℕ

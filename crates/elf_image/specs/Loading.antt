@@ -1,12 +1,16 @@
 -- The RAM after an image was loaded.
 -- Source: System V Application Binary Interface, Object Files, "Program Loading": the file's bytes of a segment are
 -- followed by zeros up to its size in memory.
-use Rattle.std.specs.Prelude.{ℕ, ◌-◌, List, ◌++◌, if◌then◌else◌}
+use Rattle.std.specs.Prelude.{ℕ, ◌-◌, List, [], ◌++◌, if◌then◌else◌}
 use Rattle.std.specs.List.{fold}
 use Rattle.flat_ram.specs.Bytes.{zeros_of, bytes_at, put_bytes}
 use Rattle.elf_image.specs.declared.segments.Segment.{Segment}
 use Rattle.elf_image.specs.Header.{segment_at, headers_of}
-use Rattle.elf_image.specs.Rules.{is_load, physical}
+use Rattle.elf_image.specs.Rules.{is_load, is_stored, physical}
+
+-- the bytes that the file has of a segment, where it is stored; no bytes of any other
+abbrev pub file_bytes_of : List ℕ → Segment → List ℕ
+file_bytes_of bytes segment = if is_stored segment then bytes_at bytes segment.offset segment.file_size else []
 
 -- the bytes of a segment in memory: those of the file, then zeros
 abbrev pub memory_of : List ℕ → Segment → List ℕ

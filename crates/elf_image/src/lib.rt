@@ -15,6 +15,8 @@ mod loading;
 mod reading;
 mod rules;
 mod segments;
+#[cfg(test)]
+mod tests;
 mod writing;
 
 pub use loading::load;

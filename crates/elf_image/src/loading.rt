@@ -1,23 +1,16 @@
 // The RAM after an image was loaded.
 ghost use Rattle.std.specs.Prelude.{◌≡◌, ◌+◌, ◌*◌, ◌≤◌, length, true, false, None};
 ghost use Rattle.std.specs.List.{find};
-ghost use Rattle.flat_ram.specs.Bytes.{bytes_at, put_bytes};
+ghost use Rattle.flat_ram.specs.Bytes.{put_bytes};
 ghost use Rattle.elf_image.specs.Header as header;
 ghost use Rattle.elf_image.specs.Rules as rules;
 ghost use Rattle.elf_image.specs.Loading as law;
 
+use crate::fields::part;
 use crate::reading::Image;
 use crate::rules::is_stored;
 use crate::segments::{Segment, segment_at};
 use flat_ram::Ram;
-
-fn part(bytes: &[u8], from: usize, count: usize) -> &[u8]
-    requires { from + count ≤ length bytes.now }
-    ensures value { result.now ≡ bytes_at bytes.now from count }
-    ensures len { length result.now ≡ count }
-{
-    &bytes[from..from + count]
-}
 
 fn store_in_range(bytes: &[u8], segment: &Segment, ram: &mut Ram)
     requires { rules.is_in_range (length bytes.now) segment.now ≡ true }
@@ -55,5 +48,10 @@ fn store_all(bytes: &[u8], table: usize, count: usize, ram: &mut Ram)
 pub fn load(image: &Image<'_>, ram: &mut Ram)
     ensures { ram.new ≡ law.loaded image.now ram.old }
 {
-    store_all(image.bytes(), image.table() as usize, image.count() as usize, ram);
+    store_all(
+        image.bytes(),
+        image.table() as usize,
+        image.count() as usize,
+        ram,
+    );
 }

@@ -1,13 +1,14 @@
 // The image, from a file's bytes.
-ghost use Rattle.std.specs.Prelude.{◌≡◌, ◌≤◌, length, IfOk, OnOk, IfErr};
+ghost use Rattle.std.specs.Prelude.{◌≡◌, ◌+◌, ◌*◌, ◌<◌, ◌≤◌, length, false, IfOk, OnOk, IfErr};
 ghost use Rattle.elf_image.specs.Header as header;
 ghost use Rattle.elf_image.specs.Rules as law;
+ghost use Rattle.elf_image.specs.Loading as loading;
 
-use std::marker::Model;
-
-use crate::fields::{half_at, word_at};
+use crate::fields::{half_at, part, word_at};
 use crate::rules;
-use crate::rules::ImageFault;
+use crate::rules::{ImageFault, is_stored};
+use crate::segments::{Segment, segment_at};
+use std::marker::Model;
 
 /// An image that the machine can be started from: a file that meets all rules. Clauses see it as the file's bytes.
 #[derive(Drop)]
@@ -27,12 +28,10 @@ impl<'a> Model for Image<'a> {
 
     ghost view = { λ image. image.bytes.now };
 
-    ghost invariant = {
-        λ image. (image_fault image.bytes.now ≡ None)
-            × (image.entry ≡ entry_of image.bytes.now)
-            × (image.table ≡ table_of image.bytes.now)
-            × (image.count ≡ count_of image.bytes.now)
-    };
+    ghost invariant = { λ image. (image_fault image.bytes.now ≡ None)
+        × (image.entry ≡ entry_of image.bytes.now)
+        × (image.table ≡ table_of image.bytes.now)
+        × (image.count ≡ count_of image.bytes.now) };
 }
 
 impl<'a> Image<'a> {
@@ -64,6 +63,35 @@ impl<'a> Image<'a> {
     {
         self.count
     }
+
+    /// The segment that a program header names.
+    #[tactic(auto, using(crate::proofs::Accepted::accepted_table))]
+    pub fn segment(&self, index: u32) -> Segment
+        requires { index < header.count_of self.now }
+        ensures { result ≡ header.segment_at self.now (header.table_of self.now + 32 * index) }
+    {
+        segment_at(self.bytes, self.table as usize + 32 * index as usize)
+    }
+
+    /// The bytes that the file has of the segment that a program header names: none where it is not stored.
+    pub fn file_bytes(&self, index: u32) -> &'a [u8]
+        requires { index < header.count_of self.now }
+        ensures { result.now ≡ loading.file_bytes_of self.now (header.segment_at self.now (header.table_of self.now + 32 * index)) }
+    {
+        file_bytes(self.bytes, self.table as usize + 32 * index as usize)
+    }
+}
+
+fn file_bytes(bytes: &[u8], at: usize) -> &[u8]
+    requires whole { at + 32 ≤ length bytes.now }
+    requires range { law.breaks_range bytes.now at ≡ false }
+    ensures { result.now ≡ loading.file_bytes_of bytes.now (header.segment_at bytes.now at) }
+{
+    let segment = segment_at(bytes, at);
+    if !is_stored(&segment) {
+        return &[];
+    }
+    part(bytes, segment.offset as usize, segment.file_size as usize)
 }
 
 #[tactic(auto, using(crate::proofs::Accepted::broken_short, crate::proofs::Accepted::broken_magic, crate::proofs::Accepted::broken_class, crate::proofs::Accepted::broken_machine, crate::proofs::Accepted::broken_kind, crate::proofs::Accepted::broken_table, crate::proofs::Accepted::broken_range, crate::proofs::Accepted::broken_entry, crate::proofs::Accepted::none_broken))]

@@ -116,7 +116,10 @@ fn is_in_range(size: usize, segment: &Segment) -> bool
     let file_end = u64::from(segment.offset) + u64::from(segment.file_size);
     let unmapped = is_unmapped(segment.address);
     let memory_end = u64::from(segment.address % 0x20000000) + u64::from(segment.memory_size);
-    segment.file_size <= segment.memory_size && file_end <= size as u64 && unmapped && memory_end <= RAM_SIZE
+    segment.file_size <= segment.memory_size
+        && file_end <= size as u64
+        && unmapped
+        && memory_end <= RAM_SIZE
 }
 
 /// Whether a segment's bytes are stored.
@@ -159,7 +162,11 @@ pub fn check_segments(bytes: &[u8]) -> Result<(), ImageFault>
     requires small { length bytes.now < 2 ^ 32 }
     ensures { law.IsCheckOf (law.range_fault bytes.now) result }
 {
-    match first_bad_header(bytes, word_at(bytes, 28) as usize, half_at(bytes, 44) as usize) {
+    match first_bad_header(
+        bytes,
+        word_at(bytes, 28) as usize,
+        half_at(bytes, 44) as usize,
+    ) {
         Some(at) => Err(ImageFault {
             rule: ImageRule::Range,
             offset: at as u32,

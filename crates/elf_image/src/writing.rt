@@ -4,9 +4,8 @@ ghost use Rattle.arrayvec.specs.ArrayVec.{array_vec_len};
 ghost use Rattle.flat_ram.specs.Bytes.{bytes_of, bytes_of_half};
 ghost use Rattle.elf_image.specs.Written as law;
 
-use std::alloc::{AllocError, Global};
-
 use arrayvec::ArrayVec;
+use std::alloc::{AllocError, Global};
 
 // The bytes of the two headers.
 type Headers = ArrayVec<u8, 84>;
@@ -80,7 +79,12 @@ fn put_program_header(base: u32, count: u32, headers: &mut Headers)
 
 #[tactic(auto, unfolding(crate::specs::Written::image_of))]
 /// The image of some bytes at a base, with an entry.
-pub fn write_image(alloc: Global, built_base: u32, entry: u32, bytes: &[u8]) -> Result<Vec<u8>, AllocError>
+pub fn write_image(
+    alloc: Global,
+    built_base: u32,
+    entry: u32,
+    bytes: &[u8],
+) -> Result<Vec<u8>, AllocError>
     requires { length bytes.now ≤ 8388608 }
     ensures { IfOk result (λ image. image.items ≡ law.image_of built_base entry bytes.now) }
 {

@@ -1,4 +1,4 @@
-use Rattle.std.proofs.Common.{◌≡◌, ◌+◌, ◌-◌, ◌*◌, ◌∙◌, sym, arith}
+use Rattle.std.proofs.Common.{◌+◌, ◌-◌, ◌*◌, ◌∙◌, sym, arith}
 use Rattle.elf_image.proofs.Table.{find_at_header, find_past_header, find_no_header}
 use Rattle.elf_image.proofs.rules.first_bad_header.Goals as goal
 
