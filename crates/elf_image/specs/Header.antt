@@ -1,9 +1,18 @@
 -- The headers of an ELF32 image in big-endian order: the fields that this machine reads, by their names in the
--- standard, and the bytes of the headers that it writes.
+-- standard.
 -- Source: System V Application Binary Interface, Object Files: "ELF Header" and "Program Header" (32-bit), with the
 -- MIPS RISC Processor Supplement for EM_MIPS.
-use Rattle.std.specs.Prelude.{ℕ, List, [], ◌∷◌, ◌++◌}
-use Rattle.flat_ram.specs.Bytes.{half_at, word_at, bytes_of_half, bytes_of}
+use Rattle.std.specs.Prelude.{ℕ, zero, suc, ◌+◌, List, [], ◌∷◌}
+use Rattle.flat_ram.specs.Bytes.{half_at, word_at}
+use Rattle.elf_image.specs.declared.segments.Segment.{Segment}
+
+-- e_type
+abbrev pub kind_of : List ℕ → ℕ
+kind_of bytes = half_at bytes 16
+
+-- e_machine
+abbrev pub machine_of : List ℕ → ℕ
+machine_of bytes = half_at bytes 18
 
 -- e_entry: where the image is entered
 abbrev pub entry_of : List ℕ → ℕ
@@ -13,40 +22,30 @@ entry_of bytes = word_at bytes 24
 abbrev pub table_of : List ℕ → ℕ
 table_of bytes = word_at bytes 28
 
+-- e_phentsize: how many bytes a program header has
+abbrev pub header_size_of : List ℕ → ℕ
+header_size_of bytes = half_at bytes 42
+
 -- e_phnum: how many program headers there are
 abbrev pub count_of : List ℕ → ℕ
 count_of bytes = half_at bytes 44
 
--- e_ident: the magic number, ELFCLASS32, ELFDATA2MSB, EV_CURRENT and nine zeros
-abbrev pub ident : List ℕ
-ident = 0x7f ∷ 0x45 ∷ 0x4c ∷ 0x46 ∷ 1 ∷ 2 ∷ 1 ∷ 0 ∷ 0 ∷ 0 ∷ 0 ∷ 0 ∷ 0 ∷ 0 ∷ 0 ∷ 0 ∷ []
+-- the program header at an offset: p_type, p_offset, p_vaddr, p_filesz and p_memsz
+abbrev pub segment_at : List ℕ → ℕ → Segment
+segment_at bytes at =
+    record {
+      kind = word_at bytes at;
+      offset = word_at bytes (at + 4);
+      address = word_at bytes (at + 8);
+      file_size = word_at bytes (at + 16);
+      memory_size = word_at bytes (at + 20);
+    }
 
--- the 52 bytes of the ELF header of an executable with one program header, which follows it
-unfoldable pub elf_header : ℕ → List ℕ
-elf_header entry =
-    ident
-    ++ bytes_of_half 2  -- e_type: ET_EXEC
-    ++ bytes_of_half 8  -- e_machine: EM_MIPS
-    ++ bytes_of 1  -- e_version: EV_CURRENT
-    ++ bytes_of entry  -- e_entry
-    ++ bytes_of 52  -- e_phoff
-    ++ bytes_of 0  -- e_shoff
-    ++ bytes_of 0  -- e_flags
-    ++ bytes_of_half 52  -- e_ehsize
-    ++ bytes_of_half 32  -- e_phentsize
-    ++ bytes_of_half 1  -- e_phnum
-    ++ bytes_of_half 0  -- e_shentsize
-    ++ bytes_of_half 0  -- e_shnum
-    ++ bytes_of_half 0  -- e_shstrndx
+-- the offsets of so many program headers of 32 bytes, one after the other
+unfoldable pub headers_from : ℕ → ℕ → List ℕ
+headers_from at zero = []
+headers_from at (suc count) = at ∷ headers_from (at + 32) count
 
--- the 32 bytes of the program header of one segment of so many bytes, which follow the two headers in the file
-unfoldable pub program_header : ℕ → ℕ → List ℕ
-program_header base count =
-    bytes_of 1  -- p_type: PT_LOAD
-    ++ bytes_of 84  -- p_offset
-    ++ bytes_of base  -- p_vaddr
-    ++ bytes_of base  -- p_paddr
-    ++ bytes_of count  -- p_filesz
-    ++ bytes_of count  -- p_memsz
-    ++ bytes_of 7  -- p_flags: PF_R, PF_W and PF_X
-    ++ bytes_of 4  -- p_align
+-- the offsets of the program headers
+abbrev pub headers_of : List ℕ → List ℕ
+headers_of bytes = headers_from (table_of bytes) (count_of bytes)

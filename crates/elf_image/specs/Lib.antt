@@ -1,3 +1,4 @@
 pub mod Header
-pub mod Plain
+pub mod Rules
 pub mod Loading
+pub mod Written

@@ -1,18 +1,26 @@
-//! Images: files of the ELF32 format that the machine is started from.
+//! Images: files of the ELF32 format, big-endian for MIPS, that the machine is started from.
 //!
 //! - `fields`: halves and words of a file, the high byte first.
-//! - `headers`: the headers that an image of the plain form has.
-//! - `reading`: an image of the plain form, from a file's bytes.
+//! - `segments`: the program headers, which name the segments of an image.
+//! - `rules`: the rules that a file must meet, in the order in which they count.
+//! - `reading`: the image, from a file's bytes, or the first broken rule.
 //! - `loading`: the RAM after an image was loaded.
+//! - `writing`: the image that the assembler writes.
 //!
-//! Clauses see an image as the bytes of its file. The definitions stand in specs/Header.antt, specs/Plain.antt and
-//! specs/Loading.antt.
+//! Clauses see an image as the bytes of its file. The definitions stand in specs/.
 #![tactic(auto)]
 
 mod fields;
-mod headers;
 mod loading;
 mod reading;
+mod rules;
+mod segments;
+#[cfg(test)]
+mod tests;
+mod writing;
 
 pub use loading::load;
-pub use reading::{Image, read_plain};
+pub use reading::{Image, read_image};
+pub use rules::{ImageFault, ImageRule};
+pub use segments::Segment;
+pub use writing::write_image;

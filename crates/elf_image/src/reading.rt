@@ -1,15 +1,16 @@
-// Images of the plain form.
-ghost use Rattle.std.specs.Prelude.{◌≡◌, ◌+◌, ◌-◌, ◌≤◌, ◌<◌, ◌^◌, ◌%◌, drop, length, IsNone, IfSome, OnSome, ◌↔◌, true, false};
-ghost use Rattle.flat_ram.specs.Map.{ram_size};
-ghost use Rattle.elf_image.specs.Plain as plain;
+// The image, from a file's bytes.
+ghost use Rattle.std.specs.Prelude.{◌≡◌, ◌+◌, ◌*◌, ◌<◌, ◌≤◌, length, false, IfOk, OnOk, IfErr};
 ghost use Rattle.elf_image.specs.Header as header;
+ghost use Rattle.elf_image.specs.Rules as law;
+ghost use Rattle.elf_image.specs.Loading as loading;
 
-use crate::fields::word_at;
-use crate::headers::plain_header;
-use flat_ram::RAM_SIZE;
+use crate::fields::{half_at, part, word_at};
+use crate::rules;
+use crate::rules::{ImageFault, is_stored};
+use crate::segments::{Segment, segment_at};
 use std::marker::Model;
 
-/// An image that the machine can be started from. Clauses see it as the bytes of its file.
+/// An image that the machine can be started from: a file that meets all rules. Clauses see it as the file's bytes.
 #[derive(Drop)]
 pub struct Image<'a> {
     bytes: &'a [u8],
@@ -19,15 +20,15 @@ pub struct Image<'a> {
 }
 
 impl<'a> Model for Image<'a> {
-    ghost use Rattle.std.specs.Prelude.{◌≡◌, List, ℕ, true};
-    ghost use Rattle.elf_image.specs.Plain.{is_plain};
+    ghost use Rattle.std.specs.Prelude.{◌≡◌, List, ℕ, None};
+    ghost use Rattle.elf_image.specs.Rules.{image_fault};
     ghost use Rattle.elf_image.specs.Header.{entry_of, table_of, count_of};
 
     ghost Value = { List ℕ };
 
     ghost view = { λ image. image.bytes.now };
 
-    ghost invariant = { λ image. (is_plain image.bytes.now ≡ true)
+    ghost invariant = { λ image. (image_fault image.bytes.now ≡ None)
         × (image.entry ≡ entry_of image.bytes.now)
         × (image.table ≡ table_of image.bytes.now)
         × (image.count ≡ count_of image.bytes.now) };
@@ -36,26 +37,10 @@ impl<'a> Model for Image<'a> {
 impl<'a> Image<'a> {
     /// The bytes of the file.
     pub fn bytes(&self) -> &'a [u8]
-        ensures { result.now ≡ self.now }
+        ensures value { result.now ≡ self.now }
+        ensures rules { law.image_fault self.now ≡ None }
     {
         self.bytes
-    }
-
-    /// The address of the image's bytes.
-    #[tactic(auto, using(crate::proofs::PlainForm::plain_is_long))]
-    pub fn base(&self) -> u32
-        ensures { result ≡ plain.base_of self.now }
-    {
-        word_at(self.bytes, 60)
-    }
-
-    /// The image's bytes, which have a place in RAM.
-    #[tactic(auto, using(crate::proofs::PlainForm::plain_is_long, crate::proofs::PlainForm::plain_has_place))]
-    pub fn body(&self) -> &'a [u8]
-        ensures value { result.now ≡ plain.body_of self.now }
-        ensures place { 0 < length result.now → plain.base_of self.now % 2 ^ 29 + length result.now ≤ ram_size }
-    {
-        rest(self.bytes, 84)
     }
 
     /// The address at which the image is entered.
@@ -64,69 +49,79 @@ impl<'a> Image<'a> {
     {
         self.entry
     }
-}
 
-fn rest(bytes: &[u8], at: usize) -> &[u8]
-    requires { at ≤ length bytes.now }
-    ensures value { result.now ≡ drop at bytes.now }
-    ensures len { length result.now ≡ length bytes.now - at }
-{
-    &bytes[at..]
-}
-
-fn is_unmapped(va: u32) -> bool
-    ensures { result ≡ plain.is_unmapped va }
-{
-    va >= 0x80000000 && va < 0xc0000000
-}
-
-fn has_place(va: u32, count: usize) -> bool
-    ensures { result ≡ plain.has_place va count }
-{
-    let unmapped = is_unmapped(va);
-    let pa = u64::from(va % 0x20000000);
-    count == 0 || unmapped && count as u64 <= RAM_SIZE && pa + count as u64 <= RAM_SIZE
-}
-
-fn can_enter(entry: u32) -> bool
-    ensures { result ≡ plain.can_enter entry }
-{
-    let unmapped = is_unmapped(entry);
-    unmapped && entry % 4 == 0
-}
-
-#[tactic(auto, unfolding(crate::specs::Plain::is_plain))]
-fn is_plain(bytes: &[u8]) -> bool
-    ensures { result ≡ plain.is_plain bytes.now }
-{
-    if bytes.len() < 84 {
-        return false;
+    /// The offset of the table of program headers in the file.
+    pub fn table(&self) -> u32
+        ensures { result ≡ header.table_of self.now }
+    {
+        self.table
     }
-    let base = word_at(bytes, 60);
-    let entry = word_at(bytes, 24);
-    let count = bytes.len() - 84;
-    if !has_place(base, count) || !can_enter(entry) {
-        return false;
+
+    /// The number of program headers.
+    pub fn count(&self) -> u32
+        ensures { result ≡ header.count_of self.now }
+    {
+        self.count
     }
-    bytes.starts_with(&plain_header(base, entry, count as u32))
+
+    /// The segment that a program header names.
+    #[tactic(auto, using(crate::proofs::Accepted::accepted_table))]
+    pub fn segment(&self, index: u32) -> Segment
+        requires { index < header.count_of self.now }
+        ensures { result ≡ header.segment_at self.now (header.table_of self.now + 32 * index) }
+    {
+        segment_at(self.bytes, self.table as usize + 32 * index as usize)
+    }
+
+    /// The bytes that the file has of the segment that a program header names: none where it is not stored.
+    pub fn file_bytes(&self, index: u32) -> &'a [u8]
+        requires { index < header.count_of self.now }
+        ensures { result.now ≡ loading.file_bytes_of self.now (header.segment_at self.now (header.table_of self.now + 32 * index)) }
+    {
+        file_bytes(self.bytes, self.table as usize + 32 * index as usize)
+    }
 }
 
-#[tactic(auto, using(crate::proofs::PlainForm::plain_is_long, crate::proofs::PlainForm::plain_table, crate::proofs::PlainForm::plain_count))]
-/// The image, where a file's bytes have the plain form: the headers that the assembler writes for a base, an entry
-/// and a number of bytes, and then that many bytes. They have a place in RAM, and the entry is an instruction's
-/// address in kseg0 or kseg1.
-pub fn read_plain<'a>(bytes: &'a [u8]) -> Option<Image<'a>>
-    ensures none { IsNone result ↔ (plain.is_plain bytes.now ≡ false) }
-    ensures some { OnSome result (plain.is_plain bytes.now ≡ true) }
-    ensures image { IfSome result (λ image. image ≡ bytes.now) }
+fn file_bytes(bytes: &[u8], at: usize) -> &[u8]
+    requires whole { at + 32 ≤ length bytes.now }
+    requires range { law.breaks_range bytes.now at ≡ false }
+    ensures { result.now ≡ loading.file_bytes_of bytes.now (header.segment_at bytes.now at) }
 {
-    if !is_plain(bytes) {
-        return None;
+    let segment = segment_at(bytes, at);
+    if !is_stored(&segment) {
+        return &[];
     }
-    Some(Image {
+    part(bytes, segment.offset as usize, segment.file_size as usize)
+}
+
+#[tactic(auto, using(crate::proofs::Accepted::broken_short, crate::proofs::Accepted::broken_magic, crate::proofs::Accepted::broken_class, crate::proofs::Accepted::broken_machine, crate::proofs::Accepted::broken_kind, crate::proofs::Accepted::broken_table, crate::proofs::Accepted::broken_range, crate::proofs::Accepted::broken_entry, crate::proofs::Accepted::none_broken))]
+fn check(bytes: &[u8]) -> Result<(), ImageFault>
+    requires { length bytes.now ≤ 4294967294 }
+    ensures { law.IsCheckOf (law.image_fault bytes.now) result }
+{
+    rules::check_length(bytes)?;
+    rules::check_magic(bytes)?;
+    rules::check_class(bytes)?;
+    rules::check_machine(bytes)?;
+    rules::check_kind(bytes)?;
+    rules::check_table(bytes)?;
+    rules::check_segments(bytes)?;
+    rules::check_entry(bytes)
+}
+
+#[tactic(auto, using(crate::proofs::Accepted::accepted_length))]
+/// The image of a file's bytes, where they meet all rules, and else the first broken rule.
+pub fn read_image<'a>(bytes: &'a [u8]) -> Result<Image<'a>, ImageFault>
+    requires { length bytes.now ≤ 4294967294 }
+    ensures image { IfOk result (λ image. image ≡ bytes.now) }
+    ensures accepted { OnOk result (law.image_fault bytes.now ≡ None) }
+    ensures fault { IfErr result (λ fault. law.image_fault bytes.now ≡ Some fault) }
+{
+    check(bytes)?;
+    Ok(Image {
         bytes,
         entry: word_at(bytes, 24),
-        table: 52,
-        count: 1,
+        table: word_at(bytes, 28),
+        count: u32::from(half_at(bytes, 44)),
     })
 }

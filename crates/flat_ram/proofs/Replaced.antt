@@ -1,5 +1,6 @@
 -- A list of bytes after some of them were replaced.
-use Rattle.std.proofs.Common.{◌≡◌, ◌+◌, ◌-◌, ◌<◌, ◌≤◌, ℕ, List, length, get_or, arith}
+use Rattle.std.proofs.Common.{◌≡◌, ◌+◌, ◌-◌, ◌<◌, ◌≤◌, ℕ, List, ◌++◌, length, take, drop, get_or, sym, ap, ◌∙◌, arith, length-append, append_assoc}
+use Rattle.std.proofs.lemmas.List.{take_at, drop_at, drop-drop, length-take-le}
 use Rattle.std.proofs.lemmas.Grind.{common_steps}
 use Rattle.flat_ram.specs.Bytes.{put_bytes, zeros_of}
 
@@ -26,3 +27,21 @@ length_zeros_of count = grind (arith, common_steps)
 pub zero_at : (count i : ℕ) → get_or (zeros_of count) i 0 ≡ 0
 unfolding zeros_of
 zero_at count i = grind (arith, common_steps)
+
+two_pieces : (front ys rest : List ℕ) (end : ℕ) → length front ≡ end → put_bytes (front ++ rest) end ys ≡ front ++ (ys ++ drop (length ys) rest)
+two_pieces front ys rest end long =
+    ap (λ f. f ++ (ys ++ drop (end + length ys) (front ++ rest))) (take_at front rest end long)
+    ∙ ap (λ r. front ++ (ys ++ r)) (sym (drop-drop (length ys) end (front ++ rest)))
+    ∙ ap (λ r. front ++ (ys ++ drop (length ys) r)) (drop_at front rest end long)
+
+-- bytes that are put one piece after the other
+pub put_twice : (all xs ys : List ℕ) (at end : ℕ) → end ≡ at + length xs → end + length ys ≤ length all → put_bytes (put_bytes all at xs) end ys ≡ put_bytes all at (xs ++ ys)
+put_twice all xs ys at end is fits =
+    let long : length (take at all ++ xs) ≡ end = length-append (take at all) xs ∙ ap (λ n. n + length xs) (length-take-le at all (omega arith)) ∙ sym is in
+    let pieces : put_bytes all at xs ≡ (take at all ++ xs) ++ drop end all = ap (λ n. take at all ++ (xs ++ drop n all)) (sym is) ∙ sym (append_assoc (take at all) xs (drop end all)) in
+    let last : end + length ys ≡ at + length (xs ++ ys) = omega (arith, length-append xs ys) in
+    ap (λ l. put_bytes l end ys) pieces
+    ∙ two_pieces (take at all ++ xs) ys (drop end all) end long
+    ∙ ap (λ r. (take at all ++ xs) ++ (ys ++ r)) (drop-drop (length ys) end all ∙ ap (λ n. drop n all) last)
+    ∙ append_assoc (take at all) xs (ys ++ drop (at + length (xs ++ ys)) all)
+    ∙ ap (λ r. take at all ++ r) (sym (append_assoc xs ys (drop (at + length (xs ++ ys)) all)))

@@ -1,5 +1,5 @@
 // The RAM, seen as the list of its bytes, and the PROM's words.
-ghost use Rattle.std.specs.Prelude.{◌≡◌, ◌+◌, ◌*◌, ◌/◌, ◌%◌, ◌^◌, ◌<◌, ◌≤◌, List, ℕ, length, slice_index, slice_set, IfOk};
+ghost use Rattle.std.specs.Prelude.{◌≡◌, ◌+◌, ◌*◌, ◌/◌, ◌%◌, ◌^◌, ◌<◌, ◌≤◌, ◌-◌, ◌++◌, List, ℕ, length, slice_index, slice_set, IfOk};
 ghost use Rattle.flat_ram.specs.Bytes as law;
 ghost use Rattle.flat_ram.specs.Map.{ram_size};
 
@@ -52,6 +52,16 @@ fn put_zeros(all: &mut [u8], at: usize, count: usize)
     ensures { all.new ≡ law.put_bytes all.old at (law.zeros_of count) }
 {
     all[at..at + count].fill(0);
+}
+
+fn put_padded(all: &mut [u8], at: usize, bytes: &[u8], count: usize)
+    requires room { at + count ≤ length all.old }
+    requires order { length bytes.now ≤ count }
+    ensures { all.new ≡ law.put_bytes all.old at (bytes.now ++ law.zeros_of (count - length bytes.now)) }
+{
+    let end = at + bytes.len();
+    put_bytes(all, at, bytes);
+    put_zeros(all, end, at + count - end);
 }
 
 impl Ram {
@@ -121,6 +131,15 @@ impl Ram {
         put_bytes(&mut self.bytes, pa as usize, bytes);
     }
 
+    /// Replaces so many bytes from an address on: by the bytes given, and then by zeros.
+    pub fn set_padded(&mut self, pa: u64, bytes: &[u8], count: u64)
+        requires room { pa + count ≤ ram_size }
+        requires order { length bytes.now ≤ count }
+        ensures { self.new ≡ law.put_bytes self.old pa (bytes.now ++ law.zeros_of (count - length bytes.now)) }
+    {
+        put_padded(&mut self.bytes, pa as usize, bytes, count as usize);
+    }
+
     /// Makes so many bytes zero from an address on.
     pub fn clear(&mut self, pa: u64, count: u64)
         requires { pa + count ≤ ram_size }
@@ -154,7 +173,8 @@ mod tests {
         assert_eq!(rt; ram.word(0x7ffffc), 0x05010000);
         ram.set(0x7fffff, 9);
         assert_eq!(rt; ram.word(0x7ffffc), 0x05010009);
-        ram.clear(0x7ffff9, 4);
+        ram.clear(0x7ffff9, 2);
+        ram.set_padded(0x7ffffb, &[], 2);
         let left: &[u8] = &[1, 0, 0, 0, 0, 1, 0, 9];
         assert_eq!(rt; ram.bytes(0x7ffff8, 8), left);
         Ok(())

@@ -1,7 +1,7 @@
 use Rattle.flat_ram.specs.Bytes.{bytes_of}
-use Rattle.elf_image.specs.Header.{program_header}
+use Rattle.elf_image.specs.Written.{program_header}
 use Rattle.elf_image.proofs.Parts.{eight_parts}
-use Rattle.elf_image.proofs.headers.put_program_header.Goals as goal
+use Rattle.elf_image.proofs.writing.put_program_header.Goals as goal
 
 pub returns-clause-items : goal.returns-clause-items
 unfolding program_header

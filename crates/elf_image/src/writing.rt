@@ -1,14 +1,14 @@
-// The headers of an image of the plain form.
-ghost use Rattle.std.specs.Prelude.{◌≡◌, ◌+◌, ◌≤◌, ◌++◌, length};
+// The image that the assembler writes.
+ghost use Rattle.std.specs.Prelude.{◌≡◌, ◌+◌, ◌≤◌, ◌++◌, length, IfOk};
 ghost use Rattle.arrayvec.specs.ArrayVec.{array_vec_len};
 ghost use Rattle.flat_ram.specs.Bytes.{bytes_of, bytes_of_half};
-ghost use Rattle.elf_image.specs.Header as law;
-ghost use Rattle.elf_image.specs.Plain.{plain_header};
+ghost use Rattle.elf_image.specs.Written as law;
 
 use arrayvec::ArrayVec;
+use std::alloc::{AllocError, Global};
 
-/// The bytes of the two headers.
-pub type Headers = ArrayVec<u8, 84>;
+// The bytes of the two headers.
+type Headers = ArrayVec<u8, 84>;
 
 const IDENT: [u8; 16] = [0x7f, 0x45, 0x4c, 0x46, 1, 2, 1, 0, 0, 0, 0, 0, 0, 0, 0, 0];
 
@@ -39,7 +39,7 @@ fn put_word(word: u32, headers: &mut Headers)
     put_bytes(&word.to_be_bytes(), headers);
 }
 
-#[tactic(auto, unfolding(crate::specs::Header::elf_header))]
+#[tactic(auto, unfolding(crate::specs::Written::elf_header))]
 fn put_elf_header(entry: u32, headers: &mut Headers)
     requires { array_vec_len headers.old + 52 ≤ 84 }
     ensures items { headers.new.items ≡ headers.old.items ++ law.elf_header entry }
@@ -61,7 +61,7 @@ fn put_elf_header(entry: u32, headers: &mut Headers)
     put_half(0, headers);
 }
 
-#[tactic(auto, unfolding(crate::specs::Header::program_header))]
+#[tactic(auto, unfolding(crate::specs::Written::program_header))]
 fn put_program_header(base: u32, count: u32, headers: &mut Headers)
     requires { array_vec_len headers.old + 32 ≤ 84 }
     ensures items { headers.new.items ≡ headers.old.items ++ law.program_header base count }
@@ -77,12 +77,22 @@ fn put_program_header(base: u32, count: u32, headers: &mut Headers)
     put_word(4, headers);
 }
 
-/// The two headers of an image of so many bytes at a base, with an entry.
-pub fn plain_header(base: u32, entry: u32, count: u32) -> Headers
-    ensures { result.items ≡ plain_header base entry count }
+#[tactic(auto, unfolding(crate::specs::Written::image_of))]
+/// The image of some bytes at a base, with an entry.
+pub fn write_image(
+    alloc: Global,
+    built_base: u32,
+    entry: u32,
+    bytes: &[u8],
+) -> Result<Vec<u8>, AllocError>
+    requires { length bytes.now ≤ 8388608 }
+    ensures { IfOk result (λ image. image.items ≡ law.image_of built_base entry bytes.now) }
 {
     let mut headers = Headers::new();
     put_elf_header(entry, &mut headers);
-    put_program_header(base, count, &mut headers);
-    headers
+    put_program_header(built_base, bytes.len() as u32, &mut headers);
+    let mut image = Vec::with_capacity(alloc, 84 + bytes.len())?;
+    image.extend_from_slice(headers.as_slice())?;
+    image.extend_from_slice(bytes)?;
+    Ok(image)
 }
