@@ -75,8 +75,6 @@ pub enum Reply {
 /// What is not built yet.
 #[derive(Clone, Copy, Debug, PartialEq, Eq)]
 pub enum Part {
-    /// The form of the image.
-    Image,
     /// The instruction word.
     Word,
     /// The place or the kind of a fetch, a load or a store.

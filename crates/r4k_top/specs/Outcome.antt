@@ -1,9 +1,9 @@
 -- What a command's run comes to, as a function of the bound on its ticks and of the image's bytes alone.
-use Rattle.std.specs.Prelude.{ℕ, List, if◌then◌else◌}
-use Rattle.elf_image.specs.Plain.{is_plain}
+use Rattle.std.specs.Prelude.{ℕ, List, length, nat_lt, Option, Some, None, if◌then◌else◌}
+use Rattle.elf_image.specs.declared.rules.ImageFault.{ImageFault}
+use Rattle.elf_image.specs.Rules.{image_fault}
 use Rattle.machine_core.specs.declared.machine_state.Machine.{Machine}
 use Rattle.machine_core.specs.declared.talk.Part.{Part}
-use Rattle.machine_core.specs.declared.talk.Part.TheVariants as part
 use Rattle.machine_core.specs.declared.ticking.Tick.{Tick}
 use Rattle.machine_core.specs.declared.ticking.Tick.TheVariants.{Ran, Halted, Unbuilt}
 use Rattle.machine_core.specs.Machine.{Reached, reset_of}
@@ -12,10 +12,13 @@ use Rattle.machine_core.specs.Shown.{shown_of}
 use Rattle.machine_core.specs.Report.{report_of}
 use Rattle.r4k_top.specs.BootProm.{boot_prom}
 
--- the report of the run's end, or the tick and the part where the run met what is not built
+-- the report of the run's end; the tick and the part where the run met what is not built; the first rule that the
+-- image breaks; or an image beyond its limit
 pub data Outcome : Type 0 where
   Report : List ℕ → Outcome
   Stops : ℕ → Part → Outcome
+  Broken : ImageFault → Outcome
+  TooLong : Outcome
 
 -- the report of a machine
 abbrev pub report_at : Machine → Outcome
@@ -31,8 +34,15 @@ outcome_at machine (Unbuilt part) = Stops machine.cpu.ticks part
 abbrev pub run_image : ℕ → List ℕ → Reached
 run_image steps bytes = run_of steps (reset_of boot_prom bytes)
 
--- what an image's run comes to; one that has not the plain form is not built
+-- a file that breaks a rule of images is not run
+abbrev pub unless_broken : ℕ → List ℕ → Option ImageFault → Outcome
+unless_broken steps bytes (Some fault) = Broken fault
+unless_broken steps bytes None = outcome_at (run_image steps bytes).machine (run_image steps bytes).answer
+
+-- the most bytes of an image
+abbrev pub image_limit : ℕ
+image_limit = 16777216
+
+-- what an image's run comes to
 unfoldable pub outcome_of : ℕ → List ℕ → Outcome
-outcome_of steps bytes =
-    if is_plain bytes then outcome_at (run_image steps bytes).machine (run_image steps bytes).answer
-    else Stops 0 part.Image
+outcome_of steps bytes = if nat_lt image_limit (length bytes) then TooLong else unless_broken steps bytes (image_fault bytes)

@@ -4,8 +4,9 @@ ghost use Rattle.std.specs.Prelude.{◌≡◌, IfOk};
 ghost use Rattle.r4k_top.specs.Outcome.{outcome_of};
 ghost use Rattle.r4k_top.specs.Ends.{outcome_shown};
 
+use crate::IMAGE_LIMIT;
 use crate::prom_words::boot_prom;
-use elf_image::read_plain;
+use elf_image::{ImageFault, read_image};
 use machine_core::{Machine, Part, Tick};
 use r4_words::Memory;
 use std::alloc::Global;
@@ -17,6 +18,10 @@ pub enum Ended {
     At(Machine),
     /// At a part that is not built.
     Stopped { tick: u32, part: Part },
+    /// Before it began: the image breaks a rule.
+    Broken(ImageFault),
+    /// Before it began: the image has more bytes than its limit.
+    TooLong,
 }
 
 /// Runs an image from reset for at most so many ticks. All memory is taken before the first tick.
@@ -24,11 +29,12 @@ pub enum Ended {
 pub fn run_image(alloc: Global, bytes: &[u8], steps: u32) -> Result<Ended, Memory>
     ensures outcome { IfOk result (λ ended. outcome_of steps bytes.now ≡ outcome_shown ended) }
 {
-    let Some(image) = read_plain(bytes) else {
-        return Ok(Ended::Stopped {
-            tick: 0,
-            part: Part::Image,
-        });
+    if bytes.len() > IMAGE_LIMIT {
+        return Ok(Ended::TooLong);
+    }
+    let image = match read_image(bytes) {
+        Ok(image) => image,
+        Err(fault) => return Ok(Ended::Broken(fault)),
     };
     let mut machine = Machine::new(alloc, &boot_prom(), &image)?;
     match machine.run(steps) {

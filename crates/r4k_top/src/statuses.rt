@@ -5,6 +5,7 @@ ghost use Rattle.arrayvec.specs.ArrayVec.{array_vec_len};
 ghost use Rattle.r4_ports.specs.Told.{Appended, AppendedPrefix, HasCause};
 ghost use Rattle.r4k_top.specs.StatusText as law;
 
+use elf_image::ImageRule;
 use machine_core::Part;
 use r4_ports::{Sink, SinkFault, write_all};
 use r4_words::{Line, put_dec, put_text};
@@ -20,8 +21,12 @@ pub enum Status {
     ReadFault,
     /// The output could not be written.
     WriteFault,
+    /// The image breaks this rule, at this offset in its file; it is the first rule that it breaks.
+    BadImage { rule: ImageRule, offset: u32 },
     /// There was not enough memory.
     Memory,
+    /// A file has more bytes than its limit.
+    TooLong,
     /// The run met a part that is not built yet, at this tick, numbered from 0.
     Unbuilt { tick: u32, part: Part },
 }
@@ -35,21 +40,52 @@ pub fn status_number(status: &Status) -> u8
         Status::Usage => 2,
         Status::ReadFault => 3,
         Status::WriteFault => 4,
+        Status::BadImage { .. } => 5,
         Status::Memory => 8,
+        Status::TooLong => 10,
         Status::Unbuilt { .. } => 11,
     }
 }
 
 // The name of a part.
-fn name_of(part: Part) -> &'static [u8]
+fn part_name(part: Part) -> &'static [u8]
     ensures name { result.now ≡ law.part_name part }
     ensures short { length result.now ≤ 6 }
 {
     match part {
-        Part::Image => b"Image",
         Part::Word => b"Word",
         Part::Access => b"Access",
     }
+}
+
+// The name of a rule.
+fn rule_name(rule: ImageRule) -> &'static [u8]
+    ensures name { result.now ≡ law.rule_name rule }
+    ensures short { length result.now ≤ 7 }
+{
+    match rule {
+        ImageRule::Short => b"Short",
+        ImageRule::Magic => b"Magic",
+        ImageRule::Class => b"Class",
+        ImageRule::Machine => b"Machine",
+        ImageRule::Kind => b"Kind",
+        ImageRule::Table => b"Table",
+        ImageRule::Range => b"Range",
+        ImageRule::Entry => b"Entry",
+    }
+}
+
+// The line of BadImage.
+fn bad_image_line(rule: ImageRule, offset: u32) -> Line
+    ensures text { result.items ≡ law.bad_image_line rule offset }
+{
+    let mut line = Line::new();
+    put_text(b"BadImage ", &mut line);
+    put_text(rule_name(rule), &mut line);
+    put_text(b" ", &mut line);
+    put_dec(u64::from(offset), &mut line);
+    put_text(b"\n", &mut line);
+    line
 }
 
 // The line of Unbuilt.
@@ -60,7 +96,7 @@ fn unbuilt_line(tick: u32, part: Part) -> Line
     put_text(b"Unbuilt ", &mut line);
     put_dec(u64::from(tick), &mut line);
     put_text(b" ", &mut line);
-    put_text(name_of(part), &mut line);
+    put_text(part_name(part), &mut line);
     put_text(b"\n", &mut line);
     line
 }
@@ -84,7 +120,9 @@ fn status_line(status: &Status) -> Line
         Status::Usage => line_of(b"Usage\n"),
         Status::ReadFault => line_of(b"ReadFault\n"),
         Status::WriteFault => line_of(b"WriteFault\n"),
+        Status::BadImage { rule, offset } => bad_image_line(*rule, *offset),
         Status::Memory => line_of(b"Memory\n"),
+        Status::TooLong => line_of(b"TooLong\n"),
         Status::Unbuilt { tick, part } => unbuilt_line(*tick, *part),
     }
 }
