@@ -1,59 +1,23 @@
--- An instruction as a row with its fields, and the word that it is.
+-- An instruction of the table: a row, and fields in range for the row's form.
 -- Source: MIPS R4000 Microprocessor User's Manual, 2nd edition (Heinrich), appendix A, "Instruction Formats".
-use Rattle.std.specs.Prelude.{◌≡◌, ◌<◌, ◌+◌, ◌-◌, ◌*◌, ◌^◌, ℕ, Option, Some, None, bit_and}
+use Rattle.std.specs.Prelude.{◌<◌, ◌^◌, ℕ}
 use Rattle.mips3_table.specs.declared.instruction.Inst.{Inst}
-use Rattle.mips3_table.specs.Operands.{Widths, widths_of, bits_of, operand_bits, rs_at, rt_at, rd_at, sa_at}
-use Rattle.mips3_table.specs.Rows.{Row, row_at}
-use Rattle.mips3_table.specs.Matching.{row_of}
+use Rattle.mips3_table.specs.Operands.{Widths, widths_of}
+use Rattle.mips3_table.specs.Rows.{row_at}
 
 -- the widths of the fields of a row's form
 abbrev pub widths_at : ℕ → Widths
 widths_at number = widths_of (row_at number).form
 
--- The fields of an instruction are in range: the row is one of the table, and each field fits its width in the row's
--- form. So a field that the form does not use, and whose width is 0, is 0.
+-- each field of an instruction fits its width: one that is not used, and whose width is 0, is 0
+pub record FitsWidths (w : Widths) (inst : Inst) : Type 0 where
+  pub rs : inst.rs < 2 ^ w.rs
+  pub rt : inst.rt < 2 ^ w.rt
+  pub rd : inst.rd < 2 ^ w.rd
+  pub sa : inst.sa < 2 ^ w.sa
+  pub imm : inst.imm < 2 ^ w.number
+
+-- An instruction is one of the table: its row is, and its fields are in range for the row's form.
 pub record IsInst (inst : Inst) : Type 0 where
   pub row : inst.row < 129
-  pub rs : inst.rs < 2 ^ (widths_at inst.row).rs
-  pub rt : inst.rt < 2 ^ (widths_at inst.row).rt
-  pub rd : inst.rd < 2 ^ (widths_at inst.row).rd
-  pub sa : inst.sa < 2 ^ (widths_at inst.row).sa
-  pub imm : inst.imm < 2 ^ (widths_at inst.row).number
-
--- the instruction of a word by the row of this number: what stands in the fields of the row's form
-abbrev pub fields_by : Widths → ℕ → ℕ → Inst
-fields_by w number word = record {
-    row = number;
-    rs = bits_of word rs_at w.rs;
-    rt = bits_of word rt_at w.rt;
-    rd = bits_of word rd_at w.rd;
-    sa = bits_of word sa_at w.sa;
-    imm = bits_of word w.number_at w.number }
-
-abbrev pub fields_of : ℕ → ℕ → Inst
-fields_of word number = fields_by (widths_at number) number word
-
--- the instruction of a row, where there is a row
-abbrev pub with_fields : ℕ → Option ℕ → Option Inst
-with_fields word (Some number) = Some (fields_of word number)
-with_fields word None = None
-
--- the instruction of a word
-unfoldable pub decoded : ℕ → Option Inst
-decoded word = with_fields word (row_of word)
-
--- the fields of an instruction, each at its place
-abbrev pub placed : Inst → ℕ
-placed inst = inst.rs * 2 ^ rs_at + inst.rt * 2 ^ rt_at + inst.rd * 2 ^ rd_at + inst.sa * 2 ^ sa_at + inst.imm * 2 ^ (widths_at inst.row).number_at
-
--- the word of an instruction: the row's own bits, and the fields
-unfoldable pub encoded : Inst → ℕ
-encoded inst = (row_at inst.row).value + placed inst
-
--- the bits of a word that are neither the row's own nor operands
-abbrev pub unused_bits : Row → ℕ
-unused_bits row = 2 ^ 32 - 1 - row.mask - operand_bits (widths_of row.form)
-
--- the unused bits of a word are zero, by its row
-abbrev pub HasNoUnused : ℕ → ℕ → Type 0
-HasNoUnused word number = bit_and word (unused_bits (row_at number)) ≡ 0
+  pub fields : FitsWidths (widths_at inst.row) inst

@@ -12,3 +12,4 @@
 pub mod classes;
 pub mod operand_forms;
 pub mod instruction;
+pub mod table;
