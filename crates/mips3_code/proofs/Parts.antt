@@ -1,6 +1,8 @@
 -- A number put together from parts, each within a mask of its own: what stands in a part's mask is the part.
-use Rattle.std.proofs.Common.{◌≡◌, ℕ, zero, suc, ◌+◌, ◌-◌, ◌*◌, ◌/◌, ◌%◌, ◌^◌, ◌<◌, ◌≤◌, List, [], ◌∷◌, length, bit_and, bit_or, slice_index_or, refl, sym, ap, ◌∙◌, arith}
-use Rattle.std.proofs.lemmas.Nat.{and_assoc, and_comm, and_or_apart, and_or_self, or_disjoint, and-not, shl-shr, and_le_l}
+use Rattle.std.specs.List.{list_all}
+use Rattle.std.proofs.lemmas.Bool.{and_parts, eqb-true}
+use Rattle.std.proofs.Common.{◌≡◌, ◌==◌, ◌&&◌, Bool, true, ℕ, zero, suc, ◌+◌, ◌-◌, ◌*◌, ◌/◌, ◌%◌, ◌^◌, ◌<◌, ◌≤◌, List, [], ◌∷◌, length, bit_and, bit_or, slice_index_or, refl, sym, ap, ◌∙◌, arith}
+use Rattle.std.proofs.lemmas.Nat.{and_assoc, and_comm, and_or_apart, and_or_self, or_disjoint, and-not, shl-shr, and_le_l, and_mask}
 use Rattle.std.proofs.lemmas.Nat.Bits.{and_high}
 use Rattle.std.proofs.Math.Nat.{mod-eq_of_lt}
 use Rattle.mips3_table.specs.Operands.{bits_of, ones}
@@ -100,3 +102,64 @@ and_sum word one other apart fits small =
       sym (and_assoc mask (2 ^ 32 - 1 - one) word) ∙ ap (λ n. bit_and n mask) (and_comm (2 ^ 32 - 1 - one) word) ∙ and_assoc mask word (2 ^ 32 - 1 - one) ∙ ap (bit_and word) rest in
     let split = and-not 32 one read one_fits read_fits in
     omega (arith, split, at_one, at_rest)
+
+-- masks of which no two share a bit
+abbrev pub disjoint : List ℕ → Bool
+disjoint [] = true
+disjoint (mask ∷ masks) = list_all (λ other. bit_and other mask == 0) masks && disjoint masks
+
+abbrev pub masks_of : List Part → List ℕ
+masks_of [] = []
+masks_of (part ∷ parts) = part.mask ∷ masks_of parts
+
+abbrev pub Within : List Part → Type 0
+Within [] = Unit {0}
+Within (part ∷ parts) = (bit_and part.bits part.mask ≡ part.bits) × Within parts
+
+pub apart_from : (mask : ℕ) (parts : List Part) → list_all (λ other. bit_and other mask == 0) (masks_of parts) ≡ true → Apart mask parts
+apart_from mask [] all = tt
+apart_from mask (part ∷ parts) all =
+    let split = and_parts (bit_and part.mask mask == 0) _ all in
+    (eqb-true _ _ split.0, apart_from mask parts split.1)
+
+pub laid_from : (parts : List Part) → disjoint (masks_of parts) ≡ true → Within parts → Laid parts
+laid_from [] apart within = tt
+laid_from (part ∷ parts) apart within =
+    let split = and_parts (list_all (λ other. bit_and other part.mask == 0) (masks_of parts)) (disjoint (masks_of parts)) apart in
+    (within.0, apart_from part.mask parts split.0, laid_from parts split.1 within.1)
+
+-- the masks themselves as parts
+abbrev pub whole : List ℕ → List Part
+whole [] = []
+whole (mask ∷ masks) = record { bits = mask; mask = mask } ∷ whole masks
+
+pub masks_of_whole : (masks : List ℕ) → masks_of (whole masks) ≡ masks
+masks_of_whole [] = refl
+masks_of_whole (mask ∷ masks) = ap (λ rest. mask ∷ rest) (masks_of_whole masks)
+
+pub and_self : (mask : ℕ) → bit_and mask mask ≡ mask
+and_self mask = and_or_self mask 0
+
+pub within_whole : (masks : List ℕ) → Within (whole masks)
+within_whole [] = tt
+within_whole (mask ∷ masks) = (and_self mask, within_whole masks)
+
+-- what stands of a word in each of some masks
+abbrev pub read_in : ℕ → List ℕ → List Part
+read_in word [] = []
+read_in word (mask ∷ masks) = record { bits = bit_and word mask; mask = mask } ∷ read_in word masks
+
+-- is together what stands in all of them
+pub total_read : (word : ℕ) (masks : List ℕ) → word < 2 ^ 32 → disjoint masks ≡ true → total (whole masks) < 2 ^ 32 → total (read_in word masks) ≡ bit_and word (total (whole masks))
+total_read word [] small apart fits = sym (and_comm word 0)
+total_read word (mask ∷ masks) small apart fits =
+    let split = and_parts (list_all (λ other. bit_and other mask == 0) masks) (disjoint masks) apart in
+    let others : Laid (whole masks) = laid_from (whole masks) (ap disjoint (masks_of_whole masks) ∙ split.1) (within_whole masks) in
+    let outside : Apart mask (whole masks) = apart_from mask (whole masks) (ap (list_all (λ other. bit_and other mask == 0)) (masks_of_whole masks) ∙ split.0) in
+    ap (λ n. n + bit_and word mask) (total_read word masks small split.1 (omega arith))
+    ∙ sym (and_sum word (total (whole masks)) mask (total_apart mask (whole masks) others outside) fits small)
+
+-- a word is what stands in masks that are together all of it
+pub word_read : (word : ℕ) (masks : List ℕ) → word < 2 ^ 32 → disjoint masks ≡ true → total (whole masks) ≡ 2 ^ 32 - 1 → total (read_in word masks) ≡ word
+word_read word masks small apart all =
+    total_read word masks small apart (omega arith) ∙ ap (bit_and word) all ∙ and_mask word 32 ∙ mod-eq_of_lt small
