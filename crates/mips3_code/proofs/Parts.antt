@@ -42,8 +42,8 @@ pub total_apart : (mask : ℕ) (parts : List Part) → Laid parts → Apart mask
 total_apart mask [] laid apart = refl
 total_apart mask (part ∷ parts) laid apart =
     let alone : bit_and (total parts) part.bits ≡ 0 =
-      and_comm (total parts) part.bits
-      ∙ within_apart part.bits part.mask (total parts) laid.0 (and_comm part.mask (total parts) ∙ total_apart part.mask parts laid.2 laid.1) in
+    and_comm (total parts) part.bits
+    ∙ within_apart part.bits part.mask (total parts) laid.0 (and_comm part.mask (total parts) ∙ total_apart part.mask parts laid.2 laid.1) in
     and_add (total parts) part.bits mask alone (within_apart part.bits part.mask mask laid.0 apart.0) ∙ total_apart mask parts laid.2 apart.1
 
 -- the first part, and what stands behind it
@@ -57,8 +57,8 @@ first_read part parts laid =
 pub behind_read : (part : Part) (parts : List Part) (mask : ℕ) → Laid (part ∷ parts) → bit_and part.mask mask ≡ 0 → bit_and (total parts + part.bits) mask ≡ bit_and (total parts) mask
 behind_read part parts mask laid apart =
     let alone : bit_and (total parts) part.bits ≡ 0 =
-      and_comm (total parts) part.bits
-      ∙ within_apart part.bits part.mask (total parts) laid.0 (and_comm part.mask (total parts) ∙ total_apart part.mask parts laid.2 laid.1) in
+    and_comm (total parts) part.bits
+    ∙ within_apart part.bits part.mask (total parts) laid.0 (and_comm part.mask (total parts) ∙ total_apart part.mask parts laid.2 laid.1) in
     and_add (total parts) part.bits mask alone (within_apart part.bits part.mask mask laid.0 apart)
 
 pub apart_at : (mask : ℕ) (parts : List Part) (at : ℕ) → Apart mask parts → at < length parts → bit_and (slice_index_or parts at no_part).mask mask ≡ 0
@@ -94,12 +94,12 @@ and_sum word one other apart fits small =
     let read_fits : read < 2 ^ 32 = omega (arith, and_le_l word mask) in
     let one_fits : one < 2 ^ 32 = omega arith in
     let whole : bit_and one mask ≡ one =
-      and_comm one mask ∙ ap (λ n. bit_and n one) (let turned : mask ≡ other + one = omega arith in turned ∙ sym (or_disjoint other one (and_comm other one ∙ apart))) ∙ and_or_self one other in
+    and_comm one mask ∙ ap (λ n. bit_and n one) (let turned : mask ≡ other + one = omega arith in turned ∙ sym (or_disjoint other one (and_comm other one ∙ apart))) ∙ and_or_self one other in
     let rest : bit_and (2 ^ 32 - 1 - one) mask ≡ other = let split = and-not 32 one mask one_fits fits in omega (arith, split, whole) in
     let at_one : bit_and one read ≡ bit_and word one =
-      sym (and_assoc mask one word) ∙ ap (λ n. bit_and n mask) (and_comm one word) ∙ and_assoc mask word one ∙ ap (bit_and word) whole in
+    sym (and_assoc mask one word) ∙ ap (λ n. bit_and n mask) (and_comm one word) ∙ and_assoc mask word one ∙ ap (bit_and word) whole in
     let at_rest : bit_and (2 ^ 32 - 1 - one) read ≡ bit_and word other =
-      sym (and_assoc mask (2 ^ 32 - 1 - one) word) ∙ ap (λ n. bit_and n mask) (and_comm (2 ^ 32 - 1 - one) word) ∙ and_assoc mask word (2 ^ 32 - 1 - one) ∙ ap (bit_and word) rest in
+    sym (and_assoc mask (2 ^ 32 - 1 - one) word) ∙ ap (λ n. bit_and n mask) (and_comm (2 ^ 32 - 1 - one) word) ∙ and_assoc mask word (2 ^ 32 - 1 - one) ∙ ap (bit_and word) rest in
     let split = and-not 32 one read one_fits read_fits in
     omega (arith, split, at_one, at_rest)
 

@@ -23,7 +23,7 @@ bits_by row =
     unused_bits row ∷ ones w.number_at w.number ∷ ones sa_at w.sa ∷ ones rd_at w.rd ∷ ones rt_at w.rt ∷ ones rs_at w.rs ∷ row.mask ∷ []
 
 unfoldable pub is_laid_out : Row → Bool
-is_laid_out row = disjoint (bits_by row) && ((total (whole (bits_by row)) == 2 ^ 32 - 1) && (bit_and row.value row.mask == row.value))
+is_laid_out row = disjoint (bits_by row) && ((total (whole (bits_by row)) == 2 ^ 32 - 1) && (bit_and row.match row.mask == row.match))
 
 pub rows_laid_out : list_all is_laid_out rows ≡ true
 unfolding rows is_laid_out
@@ -33,7 +33,7 @@ rows_laid_out = refl
 pub record IsLaidOut (row : Row) : Type 0 where
   pub apart : disjoint (bits_by row) ≡ true
   pub all : total (whole (bits_by row)) ≡ 2 ^ 32 - 1
-  pub own : bit_and row.value row.mask ≡ row.value
+  pub own : bit_and row.match row.mask ≡ row.match
 
 pub laid_out : (row : Row) → is_laid_out row ≡ true → IsLaidOut row
 unfolding is_laid_out
@@ -56,10 +56,10 @@ abbrev pub parts_by : Row → Inst → List Part
 parts_by row inst =
     let w = widths_of row.form in
     record { bits = 0; mask = unused_bits row } ∷ field_part w.number_at w.number inst.imm ∷ field_part sa_at w.sa inst.sa ∷ field_part rd_at w.rd inst.rd
-    ∷ field_part rt_at w.rt inst.rt ∷ field_part rs_at w.rs inst.rs ∷ record { bits = row.value; mask = row.mask } ∷ []
+    ∷ field_part rt_at w.rt inst.rt ∷ field_part rs_at w.rs inst.rs ∷ record { bits = row.match; mask = row.mask } ∷ []
 
 abbrev pub word_by : Row → Inst → ℕ
-word_by row inst = row.value + placed_by (widths_of row.form) inst
+word_by row inst = row.match + placed_by (widths_of row.form) inst
 
 pub total_parts : (row : Row) (inst : Inst) → total (parts_by row inst) ≡ word_by row inst
 total_parts row inst = omega arith
@@ -67,9 +67,19 @@ total_parts row inst = omega arith
 pub parts_laid : (row : Row) (inst : Inst) → IsLaidOut row → FitsWidths (widths_of row.form) inst → Laid (parts_by row inst)
 parts_laid row inst out fits =
     let w = widths_of row.form in
-    laid_from (parts_by row inst) out.apart
-      (refl, (field_within w.number_at w.number inst.imm fits.imm, (field_within sa_at w.sa inst.sa fits.sa, (field_within rd_at w.rd inst.rd fits.rd,
-        (field_within rt_at w.rt inst.rt fits.rt, (field_within rs_at w.rs inst.rs fits.rs, (out.own, tt)))))))
+    laid_from (parts_by row inst) out.apart (
+      refl,
+      (
+        field_within w.number_at w.number inst.imm fits.imm,
+        (
+          field_within sa_at w.sa inst.sa fits.sa,
+          (
+            field_within rd_at w.rd inst.rd fits.rd,
+            (field_within rt_at w.rt inst.rt fits.rt, (field_within rs_at w.rs inst.rs fits.rs, (out.own, tt))),
+          ),
+        ),
+      ),
+    )
 
 -- what stands in a part's bits of an instruction's word is the part
 pub word_part : (row : Row) (inst : Inst) (at : ℕ) → IsLaidOut row → FitsWidths (widths_of row.form) inst → at < 7 →
@@ -99,7 +109,7 @@ pub encoded_row : (inst : Inst) → IsInst inst → row_of (encoded inst) ≡ So
 unfolding encoded
 encoded_row inst is_inst =
     row_of_match (encoded inst) inst.row
-      (record { is_row = is_inst.row; is_match = word_part (row_at inst.row) inst 6 (row_laid_out inst.row is_inst.row) is_inst.fields (omega arith) })
+    (record { is_row = is_inst.row; is_match = word_part (row_at inst.row) inst 6 (row_laid_out inst.row is_inst.row) is_inst.fields (omega arith) })
 
 -- decoding undoes encoding
 pub decoded_encoded : (inst : Inst) → IsInst inst → decoded (encoded inst) ≡ Some inst
@@ -118,10 +128,15 @@ bits_fit word low width = mod-lt (word / 2 ^ low) (pow_pos width)
 
 pub fields_fit : (w : Widths) (number word : ℕ) → FitsWidths w (fields_by w number word)
 fields_fit w number word = record {
-    rs = bits_fit word rs_at w.rs; rt = bits_fit word rt_at w.rt; rd = bits_fit word rd_at w.rd; sa = bits_fit word sa_at w.sa; imm = bits_fit word w.number_at w.number }
+  rs = bits_fit word rs_at w.rs;
+  rt = bits_fit word rt_at w.rt;
+  rd = bits_fit word rd_at w.rd;
+  sa = bits_fit word sa_at w.sa;
+  imm = bits_fit word w.number_at w.number;
+}
 
 -- encoding undoes decoding, where the unused bits are zero
-pub word_back : (row : Row) (word number : ℕ) → IsLaidOut row → word < 2 ^ 32 → bit_and word row.mask ≡ row.value → bit_and word (unused_bits row) ≡ 0 →
+pub word_back : (row : Row) (word number : ℕ) → IsLaidOut row → word < 2 ^ 32 → bit_and word row.mask ≡ row.match → bit_and word (unused_bits row) ≡ 0 →
     word_by row (fields_by (widths_of row.form) number word) ≡ word
 word_back row word number out small own unused =
     let w = widths_of row.form in
@@ -143,7 +158,8 @@ fields_are_back word number small found =
     let is_row = match_of_row word number found in
     record {
       is_inst = record { row = is_row.is_row; fields = fields_fit (widths_at number) number word };
-      encoded_back = λ unused. word_back (row_at number) word number (row_laid_out number is_row.is_row) small is_row.is_match unused }
+      encoded_back = λ unused. word_back (row_at number) word number (row_laid_out number is_row.is_row) small is_row.is_match unused;
+    }
 
 -- what is said of a word's row, said of the word's instruction
 pub with_fields_none : (word : ℕ) (row : Option ℕ) → IsNone (with_fields word row) ↔ IsNone row

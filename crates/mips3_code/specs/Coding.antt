@@ -10,12 +10,13 @@ use Rattle.mips3_table.specs.Instructions.{widths_at}
 -- the instruction of a word by the row of this number: what stands in the fields of the row's form
 abbrev pub fields_by : Widths → ℕ → ℕ → Inst
 fields_by w number word = record {
-    row = number;
-    rs = bits_of word rs_at w.rs;
-    rt = bits_of word rt_at w.rt;
-    rd = bits_of word rd_at w.rd;
-    sa = bits_of word sa_at w.sa;
-    imm = bits_of word w.number_at w.number }
+  row = number;
+  rs = bits_of word rs_at w.rs;
+  rt = bits_of word rt_at w.rt;
+  rd = bits_of word rd_at w.rd;
+  sa = bits_of word sa_at w.sa;
+  imm = bits_of word w.number_at w.number;
+}
 
 abbrev pub fields_of : ℕ → ℕ → Inst
 fields_of word number = fields_by (widths_at number) number word
@@ -35,7 +36,7 @@ placed_by w inst = inst.rs * 2 ^ rs_at + inst.rt * 2 ^ rt_at + inst.rd * 2 ^ rd_
 
 -- the word of an instruction: the row's own bits, and the fields
 unfoldable pub encoded : Inst → ℕ
-encoded inst = (row_at inst.row).value + placed_by (widths_at inst.row) inst
+encoded inst = (row_at inst.row).match + placed_by (widths_at inst.row) inst
 
 -- the bits of a word that are neither the row's own nor operands
 abbrev pub unused_bits : Row → ℕ

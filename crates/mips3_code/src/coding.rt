@@ -5,26 +5,25 @@ ghost use Rattle.mips3_table.specs.Matching.{match_in, row_of};
 ghost use Rattle.mips3_table.specs.Instructions.{IsInst};
 ghost use Rattle.mips3_code.specs.Coding.{HasNoUnused, decoded, encoded, with_fields};
 
-use mips3_table::classes::{Class, class_of};
-use mips3_table::instruction::Inst;
-use mips3_table::operand_forms::Form;
-use mips3_table::{cop0_function_rows, cop0_move_rows, opcode_rows, regimm_rows, special_rows};
-
 use crate::fields::{fields_in, fields_of};
+use mips3_table::{
+    Class, Form, Inst, class_of, cop0_function_rows, cop0_move_rows, opcode_rows, regimm_rows,
+    special_rows,
+};
 
 macro_rules! instruction_of_match {
-    (($bits:expr, $word:expr) $($number:literal $name:literal $value:literal $form:ident $width:literal,)*) => {
+    (($bits:expr, $word:expr) $($number:literal $name:literal $match:literal $form:ident $width:literal,)*) => {
         match $bits {
-            $($value => Some(fields_in(Form::$form, $number, $word)),)*
+            $($match => Some(fields_in(Form::$form, $number, $word)),)*
             _ => None,
         }
     };
 }
 
 macro_rules! word_of_row {
-    (($inst:expr) $($number:literal $name:literal $value:literal $form:ident $width:literal,)*) => {
+    (($inst:expr) $($number:literal $name:literal $match:literal $form:ident $width:literal,)*) => {
         match $inst.row {
-            $($number => $value + fields_of(Form::$form, $inst),)*
+            $($number => $match + fields_of(Form::$form, $inst),)*
             _ => unreachable!(),
         }
     };
@@ -158,3 +157,6 @@ fn encode_cop0_function(inst: &Inst) -> u32
 {
     cop0_function_rows!(word_of_row, inst)
 }
+
+#[cfg(test)]
+mod tests;

@@ -5,34 +5,69 @@ ghost use Rattle.mips3_table.specs.Operands.{widths_of};
 ghost use Rattle.mips3_table.specs.Instructions.{FitsWidths};
 ghost use Rattle.mips3_code.specs.Coding.{fields_by, placed_by};
 
-use mips3_table::instruction::Inst;
-use mips3_table::operand_forms::Form;
+use mips3_table::{Form, Inst};
 
 /// The instruction of a row, with the fields of its form as they stand in the word.
 pub fn fields_in(form: Form, row: u8, word: u32) -> Inst
     ensures { result ≡ fields_by (widths_of form) row word }
 {
-    let (rs, rt, rd, sa) = (register(word, 21), register(word, 16), register(word, 11), register(word, 6));
-    let none = Inst { row, rs: 0, rt: 0, rd: 0, sa: 0, imm: 0 };
+    let (rs, rt, rd, sa) = (
+        register(word, 21),
+        register(word, 16),
+        register(word, 11),
+        register(word, 6),
+    );
+    let none = Inst {
+        row,
+        rs: 0,
+        rt: 0,
+        rd: 0,
+        sa: 0,
+        imm: 0,
+    };
     match form {
-        Form::Target | Form::CoprocessorNumber => Inst { imm: word & 0x03ffffff, ..none },
+        Form::Target | Form::CoprocessorNumber => Inst {
+            imm: word & 0x03ffffff,
+            ..none
+        },
         Form::CompareBranch
         | Form::SignedImmediate
         | Form::UnsignedImmediate
         | Form::Memory
         | Form::CacheOperation
-        | Form::CoprocessorMemory => Inst { rs, rt, imm: word & 0xffff, ..none },
-        Form::ZeroBranch | Form::TrapImmediate => Inst { rs, imm: word & 0xffff, ..none },
-        Form::UpperImmediate => Inst { rt, imm: word & 0xffff, ..none },
+        | Form::CoprocessorMemory => Inst {
+            rs,
+            rt,
+            imm: word & 0xffff,
+            ..none
+        },
+        Form::ZeroBranch | Form::TrapImmediate => Inst {
+            rs,
+            imm: word & 0xffff,
+            ..none
+        },
+        Form::UpperImmediate => Inst {
+            rt,
+            imm: word & 0xffff,
+            ..none
+        },
         Form::Shift => Inst { rt, rd, sa, ..none },
         Form::ShiftByRegister | Form::ThreeRegisters => Inst { rs, rt, rd, ..none },
         Form::Source => Inst { rs, ..none },
         Form::JumpAndLinkRegister => Inst { rs, rd, ..none },
-        Form::Code => Inst { imm: word >> 6 & 0x000fffff, ..none },
+        Form::Code => Inst {
+            imm: word >> 6 & 0x000fffff,
+            ..none
+        },
         Form::NoOperands => none,
         Form::Destination => Inst { rd, ..none },
         Form::TwoSources => Inst { rs, rt, ..none },
-        Form::TrapRegisters => Inst { rs, rt, imm: word >> 6 & 0x3ff, ..none },
+        Form::TrapRegisters => Inst {
+            rs,
+            rt,
+            imm: word >> 6 & 0x3ff,
+            ..none
+        },
         Form::Cp0Move => Inst { rt, rd, ..none },
     }
 }

@@ -7,5 +7,7 @@
 //! Reading order: the fields of a form, taken from a word and put into one; then the table read both ways.
 #![tactic(auto)]
 
-pub mod fields;
-pub mod coding;
+mod coding;
+mod fields;
+
+pub use coding::{decode, encode};

@@ -1,6 +1,6 @@
 -- At most one row of the table matches a word: a test on pairs of rows, computed over the table.
 use Rattle.std.proofs.Common.{◌≡◌, ◌==◌, ℕ, zero, suc, ◌+◌, ◌-◌, ◌<◌, ◌≤◌, Bool, true, false, not, ◌&&◌, List, [], ◌∷◌, Option, Some, None, length, bit_and, slice_index_or, refl, sym, ap, subst, ◌∙◌, ⊎_elim, arith, if◌then◌else◌}
-use Rattle.std.proofs.Common.{rules, IsNone, ◌↔◌}
+use Rattle.std.proofs.Common.{rules, IsNone, IfSome, ◌↔◌}
 use Rattle.std.specs.List.{list_all}
 use Rattle.std.proofs.lemmas.Bool.{eqb-true, eq-eqb, and_parts, cases_Bool, both_ways, not-true}
 use Rattle.std.proofs.lemmas.Nat.{and_assoc, and_comm}
@@ -9,7 +9,7 @@ use Rattle.mips3_table.specs.Matching.{matches, match_from, row_of, IsRowOf}
 
 -- two rows that no word matches both: they want different things of the bits that both read
 abbrev pub apart : Row → Row → Bool
-apart one other = not (bit_and one.value other.mask == bit_and other.value one.mask)
+apart one other = not (bit_and one.match other.mask == bit_and other.match one.mask)
 
 -- each row is apart from each later one
 abbrev pub all_apart : List Row → Bool
@@ -25,8 +25,8 @@ unfolding rows
 rows_count = refl
 
 -- two rows that one word matches want the same of the bits that both read
-pub both_read : (word : ℕ) (one other : Row) → bit_and word one.mask ≡ one.value → bit_and word other.mask ≡ other.value →
-    bit_and one.value other.mask ≡ bit_and other.value one.mask
+pub both_read : (word : ℕ) (one other : Row) → bit_and word one.mask ≡ one.match → bit_and word other.mask ≡ other.match →
+    bit_and one.match other.mask ≡ bit_and other.match one.mask
 both_read word one other at_one at_other =
     ap (λ v. bit_and v other.mask) (sym at_one) ∙ and_assoc other.mask word one.mask ∙ ap (bit_and word) (and_comm one.mask other.mask)
     ∙ sym (and_assoc one.mask word other.mask) ∙ ap (λ v. bit_and v one.mask) at_other
@@ -35,10 +35,10 @@ both_read word one other at_one at_other =
 pub apart_matches : (word : ℕ) (one other : Row) → apart one other ≡ true → matches word other ≡ true → matches word one ≡ false
 apart_matches word one other is_apart at_other =
     ⊎_elim
-      (λ at_one. absurd (both_ways (bit_and one.value other.mask == bit_and other.value one.mask) (not-true _ is_apart)
-        (eq-eqb _ _ (both_read word one other (eqb-true _ _ at_one) (eqb-true _ _ at_other)))))
-      (λ none. none)
-      (cases_Bool (matches word one))
+    (λ at_one. absurd (both_ways (bit_and one.match other.mask == bit_and other.match one.mask) (not-true _ is_apart)
+    (eq-eqb _ _ (both_read word one other (eqb-true _ _ at_one) (eqb-true _ _ at_other)))))
+    (λ none. none)
+    (cases_Bool (matches word one))
 
 -- a test of each element holds of the one at a place
 pub each_at : (test : Row → Bool) (rows : List Row) (at : ℕ) → list_all test rows ≡ true → at < length rows → test (slice_index_or rows at no_row) ≡ true
@@ -70,18 +70,18 @@ pub match_from_found : (word first number : ℕ) (rows : List Row) → match_fro
 match_from_found word first number [] found = cc
 match_from_found word first number (row ∷ rest) found =
     ⊎_elim
-      (λ here.
-        let same : Some first ≡ Some number = sym (ap (λ b. if b then Some first else match_from word (first + 1) rest) here) ∙ found in
-        let is_first : first ≡ number = cc in
-        let is : number ≡ first + 0 = omega arith in
-        let within : 0 < suc (length rest) = omega arith in
-        record { place = 0; is = is; within = within; is_match = here })
-      (λ later.
-        let inner : FoundIn word (first + 1) number rest = match_from_found word (first + 1) number rest (sym (ap (λ b. if b then Some first else match_from word (first + 1) rest) later) ∙ found) in
-        let is : number ≡ first + suc inner.place = omega arith in
-        let within : suc inner.place < suc (length rest) = omega arith in
-        record { place = suc inner.place; is = is; within = within; is_match = inner.is_match })
-      (cases_Bool (matches word row))
+    (λ here.
+    let same : Some first ≡ Some number = sym (ap (λ b. if b then Some first else match_from word (first + 1) rest) here) ∙ found in
+    let is_first : first ≡ number = cc in
+    let is : number ≡ first + 0 = omega arith in
+    let within : 0 < suc (length rest) = omega arith in
+    record { place = 0; is = is; within = within; is_match = here })
+    (λ later.
+    let inner : FoundIn word (first + 1) number rest = match_from_found word (first + 1) number rest (sym (ap (λ b. if b then Some first else match_from word (first + 1) rest) later) ∙ found) in
+    let is : number ≡ first + suc inner.place = omega arith in
+    let within : suc inner.place < suc (length rest) = omega arith in
+    record { place = suc inner.place; is = is; within = within; is_match = inner.is_match })
+    (cases_Bool (matches word row))
 
 -- the row that a word matches is its row
 pub row_of_match : (word number : ℕ) → IsRowOf word number → row_of word ≡ Some number
@@ -97,7 +97,7 @@ match_of_row word number found =
     let inner = match_from_found word 0 number rows found in
     let same : number ≡ inner.place = omega arith in
     let within : number < 129 = rw rows_count at (subst (λ n. n < length rows) (sym same) inner.within) in
-    record { is_row = within; is_match = subst (λ n. bit_and word (slice_index_or rows n no_row).mask ≡ (slice_index_or rows n no_row).value) (sym same) (eqb-true _ _ inner.is_match) }
+    record { is_row = within; is_match = subst (λ n. bit_and word (slice_index_or rows n no_row).mask ≡ (slice_index_or rows n no_row).match) (sym same) (eqb-true _ _ inner.is_match) }
 
 pub at_most_one_row : (word one other : ℕ) → IsRowOf word one → IsRowOf word other → one ≡ other
 at_most_one_row word one other is_one is_other =
@@ -108,3 +108,8 @@ at_most_one_row word one other is_one is_other =
 pub reserved_word : (word : ℕ) (answer : Option ℕ) → answer ≡ row_of word → IsNone answer ↔ ((number : ℕ) → ¬ IsRowOf word number)
 reserved_word word None is = (λ none number is_row. let bad : None ≡ Some number = is ∙ row_of_match word number is_row in cc, λ none. search rules)
 reserved_word word (Some number) is = (λ none. absurd (search rules), λ none. absurd (none number (match_of_row word number (sym is))))
+
+-- a row that a word has is in the table
+pub row_in_table : (word : ℕ) (answer : Option ℕ) → answer ≡ row_of word → IfSome answer (λ number. number < 129)
+row_in_table word None is = tt
+row_in_table word (Some number) is = (match_of_row word number (sym is)).is_row

@@ -14,8 +14,8 @@ use Rattle.mips3_table.specs.Matching.{matches, match_from, match_in, row_of, cl
 pub field_matched : (word mask value low width : ℕ) → bit_and word mask ≡ value → bits_of mask low width ≡ 2 ^ width - 1 → bits_of word low width ≡ bits_of value low width
 field_matched word mask value low width is_match whole =
     sym (
-      ap (λ v. bits_of v low width) (sym is_match) ∙ ap (λ v. v % 2 ^ width) (and_shr word mask low) ∙ and_mod (word / 2 ^ low) (mask / 2 ^ low) width
-      ∙ ap (bit_and (bits_of word low width)) whole ∙ and_mask (bits_of word low width) width ∙ mod-mod (word / 2 ^ low) (2 ^ width))
+    ap (λ v. bits_of v low width) (sym is_match) ∙ ap (λ v. v % 2 ^ width) (and_shr word mask low) ∙ and_mod (word / 2 ^ low) (mask / 2 ^ low) width
+    ∙ ap (bit_and (bits_of word low width)) whole ∙ and_mask (bits_of word low width) width ∙ mod-mod (word / 2 ^ low) (2 ^ width))
 
 -- outside opcode 16 the class does not depend on bit 25
 pub class_by_opcode : (opcode one other : ℕ) → (opcode == 16) ≡ false → class_by opcode one ≡ class_by opcode other
@@ -25,20 +25,20 @@ class_by_opcode opcode one other not_cop0 =
 
 -- a row's mask reads what tells its class
 abbrev pub reads_class : Row → Bool
-reads_class row = (bits_of row.mask 26 6 == 63) && (not (bits_of row.value 26 6 == 16) || (bits_of row.mask 25 1 == 1))
+reads_class row = (bits_of row.mask 26 6 == 63) && (not (bits_of row.match 26 6 == 16) || (bits_of row.mask 25 1 == 1))
 
 -- so a word that matches it has the class of what is wanted of it
-pub class_matched : (word : ℕ) (row : Row) → reads_class row ≡ true → matches word row ≡ true → class_of word ≡ class_of row.value
+pub class_matched : (word : ℕ) (row : Row) → reads_class row ≡ true → matches word row ≡ true → class_of word ≡ class_of row.match
 unfolding class_of
 class_matched word row reads is_match =
     let parts = and_parts (bits_of row.mask 26 6 == 63) _ reads in
-    let bits : bit_and word row.mask ≡ row.value = eqb-true _ _ is_match in
-    let opcode : bits_of word 26 6 ≡ bits_of row.value 26 6 = field_matched word row.mask row.value 26 6 bits (eqb-true _ _ parts.0) in
+    let bits : bit_and word row.mask ≡ row.match = eqb-true _ _ is_match in
+    let opcode : bits_of word 26 6 ≡ bits_of row.match 26 6 = field_matched word row.mask row.match 26 6 bits (eqb-true _ _ parts.0) in
     ap (λ o. class_by o (bits_of word 25 1)) opcode ∙
     ⊎_elim
-      (λ other. class_by_opcode (bits_of row.value 26 6) (bits_of word 25 1) (bits_of row.value 25 1) (not-true _ other))
-      (λ whole. ap (class_by (bits_of row.value 26 6)) (field_matched word row.mask row.value 25 1 bits (eqb-true _ _ whole)))
-      (or_cases (not (bits_of row.value 26 6 == 16)) _ parts.1)
+    (λ other. class_by_opcode (bits_of row.match 26 6) (bits_of word 25 1) (bits_of row.match 25 1) (not-true _ other))
+    (λ whole. ap (class_by (bits_of row.match 26 6)) (field_matched word row.mask row.match 25 1 bits (eqb-true _ _ whole)))
+    (or_cases (not (bits_of row.match 26 6 == 16)) _ parts.1)
 
 abbrev pub is_class : Class → Class → Bool
 is_class Opcode Opcode = true
@@ -58,7 +58,7 @@ is_class_true one other same = cc
 
 -- a row of a class
 unfoldable pub is_of : Class → Row → Bool
-is_of class row = reads_class row && is_class (class_of row.value) class
+is_of class row = reads_class row && is_class (class_of row.match) class
 
 pub opcode_rows_are : list_all (is_of Opcode) opcode_rows ≡ true
 unfolding is_of class_of
@@ -86,9 +86,9 @@ unfolding is_of
 other_matches word class row is other =
     let parts = and_parts (reads_class row) _ is in
     ⊎_elim
-      (λ here. absurd (other (class_matched word row parts.0 here ∙ is_class_true (class_of row.value) class parts.1)))
-      (λ none. none)
-      (cases_Bool (matches word row))
+    (λ here. absurd (other (class_matched word row parts.0 here ∙ is_class_true (class_of row.match) class parts.1)))
+    (λ none. none)
+    (cases_Bool (matches word row))
 
 pub match_from_other : (word first : ℕ) (class : Class) (rows : List Row) → list_all (is_of class) rows ≡ true → class_of word ≢ class → match_from word first rows ≡ None
 match_from_other word first class [] are other = refl
@@ -110,13 +110,13 @@ pub match_from_append : (word first : ℕ) (front rest : List Row) → match_fro
 match_from_append word first [] rest = ap (λ at. match_from word at rest) (omega arith)
 match_from_append word first (row ∷ front) rest =
     ⊎_elim
-      (λ here. ap (λ b. if b then Some first else match_from word (first + 1) (front ++ rest)) here
-        ∙ sym (ap (λ b. or_else (if b then Some first else match_from word (first + 1) front) (match_from word (first + length (row ∷ front)) rest)) here))
-      (λ later. ap (λ b. if b then Some first else match_from word (first + 1) (front ++ rest)) later
-        ∙ match_from_append word (first + 1) front rest
-        ∙ ap (λ at. or_else (match_from word (first + 1) front) (match_from word at rest)) (omega arith)
-        ∙ sym (ap (λ b. or_else (if b then Some first else match_from word (first + 1) front) (match_from word (first + length (row ∷ front)) rest)) later))
-      (cases_Bool (matches word row))
+    (λ here. ap (λ b. if b then Some first else match_from word (first + 1) (front ++ rest)) here
+    ∙ sym (ap (λ b. or_else (if b then Some first else match_from word (first + 1) front) (match_from word (first + length (row ∷ front)) rest)) here))
+    (λ later. ap (λ b. if b then Some first else match_from word (first + 1) (front ++ rest)) later
+    ∙ match_from_append word (first + 1) front rest
+    ∙ ap (λ at. or_else (match_from word (first + 1) front) (match_from word at rest)) (omega arith)
+    ∙ sym (ap (λ b. or_else (if b then Some first else match_from word (first + 1) front) (match_from word (first + length (row ∷ front)) rest)) later))
+    (cases_Bool (matches word row))
 
 -- the first of five answers
 abbrev pub in_turn : Option ℕ → Option ℕ → Option ℕ → Option ℕ → Option ℕ → Option ℕ
@@ -127,10 +127,10 @@ unfolding row_of rows match_in
 row_of_in_turn word =
     match_from_append word 0 opcode_rows (special_rows ++ (regimm_rows ++ (cop0_move_rows ++ cop0_function_rows)))
     ∙ ap (or_else (match_in Opcode word))
-        (match_from_append word 54 special_rows (regimm_rows ++ (cop0_move_rows ++ cop0_function_rows))
-        ∙ ap (or_else (match_in Special word))
-            (match_from_append word 106 regimm_rows (cop0_move_rows ++ cop0_function_rows)
-            ∙ ap (or_else (match_in Regimm word)) (match_from_append word 120 cop0_move_rows cop0_function_rows)))
+    (match_from_append word 54 special_rows (regimm_rows ++ (cop0_move_rows ++ cop0_function_rows))
+    ∙ ap (or_else (match_in Special word))
+    (match_from_append word 106 regimm_rows (cop0_move_rows ++ cop0_function_rows)
+    ∙ ap (or_else (match_in Regimm word)) (match_from_append word 120 cop0_move_rows cop0_function_rows)))
 
 pub no_opcode : (word : ℕ) → class_of word ≢ Opcode → match_in Opcode word ≡ None
 unfolding match_in

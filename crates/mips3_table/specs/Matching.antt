@@ -9,12 +9,12 @@ use Rattle.mips3_table.specs.Rows.{Row, rows, row_at, opcode_rows, special_rows,
 
 -- a word matches a row: what stands in the row's bits is the row's
 abbrev pub matches : ℕ → Row → Bool
-matches word row = bit_and word row.mask == row.value
+matches word row = bit_and word row.mask == row.match
 
 -- the row of this number is in the table, and the word matches it
 pub record IsRowOf (word number : ℕ) : Type 0 where
   pub is_row : number < 129
-  pub is_match : bit_and word (row_at number).mask ≡ (row_at number).value
+  pub is_match : bit_and word (row_at number).mask ≡ (row_at number).match
 
 -- the number of the first of these rows that the word matches, where the first of them has the number first
 abbrev pub match_from : ℕ → ℕ → List Row → Option ℕ
@@ -39,10 +39,10 @@ class_of word = class_by (bits_of word 26 6) (bits_of word 25 1)
 
 -- the row that a word has among those of a class
 unfoldable pub match_in : Class → ℕ → Option ℕ
-match_in Opcode word       = match_from word 0 opcode_rows
-match_in Special word      = match_from word 54 special_rows
-match_in Regimm word       = match_from word 106 regimm_rows
-match_in Cop0Move word     = match_from word 120 cop0_move_rows
+match_in Opcode word = match_from word 0 opcode_rows
+match_in Special word = match_from word 54 special_rows
+match_in Regimm word = match_from word 106 regimm_rows
+match_in Cop0Move word = match_from word 120 cop0_move_rows
 match_in Cop0Function word = match_from word 124 cop0_function_rows
 
 -- at most one row matches a word

@@ -20,38 +20,41 @@ widths rs rt rd sa number number_at = record { rs = rs; rt = rt; rd = rd; sa = s
 -- the lowest bit of each field of 5 bits
 abbrev pub rs_at : ℕ
 rs_at = 21
+
 abbrev pub rt_at : ℕ
 rt_at = 16
+
 abbrev pub rd_at : ℕ
 rd_at = 11
+
 abbrev pub sa_at : ℕ
 sa_at = 6
 
 -- The 22 forms. A shift's amount alone uses sa.
 --                                          rs rt rd sa  number, at
 abbrev pub widths_of : Form → Widths
-widths_of Target              = widths 0 0 0 0 26 0
-widths_of CompareBranch       = widths 5 5 0 0 16 0
-widths_of ZeroBranch          = widths 5 0 0 0 16 0
-widths_of SignedImmediate     = widths 5 5 0 0 16 0
-widths_of UnsignedImmediate   = widths 5 5 0 0 16 0
-widths_of UpperImmediate      = widths 0 5 0 0 16 0
-widths_of Memory              = widths 5 5 0 0 16 0
-widths_of CacheOperation      = widths 5 5 0 0 16 0
-widths_of CoprocessorNumber   = widths 0 0 0 0 26 0
-widths_of CoprocessorMemory   = widths 5 5 0 0 16 0
-widths_of Shift               = widths 0 5 5 5 0 0
-widths_of ShiftByRegister     = widths 5 5 5 0 0 0
-widths_of Source              = widths 5 0 0 0 0 0
+widths_of Target = widths 0 0 0 0 26 0
+widths_of CompareBranch = widths 5 5 0 0 16 0
+widths_of ZeroBranch = widths 5 0 0 0 16 0
+widths_of SignedImmediate = widths 5 5 0 0 16 0
+widths_of UnsignedImmediate = widths 5 5 0 0 16 0
+widths_of UpperImmediate = widths 0 5 0 0 16 0
+widths_of Memory = widths 5 5 0 0 16 0
+widths_of CacheOperation = widths 5 5 0 0 16 0
+widths_of CoprocessorNumber = widths 0 0 0 0 26 0
+widths_of CoprocessorMemory = widths 5 5 0 0 16 0
+widths_of Shift = widths 0 5 5 5 0 0
+widths_of ShiftByRegister = widths 5 5 5 0 0 0
+widths_of Source = widths 5 0 0 0 0 0
 widths_of JumpAndLinkRegister = widths 5 0 5 0 0 0
-widths_of Code                = widths 0 0 0 0 20 6
-widths_of NoOperands          = widths 0 0 0 0 0 0
-widths_of Destination         = widths 0 0 5 0 0 0
-widths_of TwoSources          = widths 5 5 0 0 0 0
-widths_of ThreeRegisters      = widths 5 5 5 0 0 0
-widths_of TrapRegisters       = widths 5 5 0 0 10 6
-widths_of TrapImmediate       = widths 5 0 0 0 16 0
-widths_of Cp0Move             = widths 0 5 5 0 0 0
+widths_of Code = widths 0 0 0 0 20 6
+widths_of NoOperands = widths 0 0 0 0 0 0
+widths_of Destination = widths 0 0 5 0 0 0
+widths_of TwoSources = widths 5 5 0 0 0 0
+widths_of ThreeRegisters = widths 5 5 5 0 0 0
+widths_of TrapRegisters = widths 5 5 0 0 10 6
+widths_of TrapImmediate = widths 5 0 0 0 16 0
+widths_of Cp0Move = widths 0 5 5 0 0 0
 
 -- what stands in the bits of a word from low up, so many of them: 0 where there are none
 abbrev pub bits_of : ℕ → ℕ → ℕ → ℕ

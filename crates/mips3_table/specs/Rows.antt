@@ -13,31 +13,31 @@ pub record Row : Type 0 where
   pub name : List ℕ
   pub class : Class
   pub mask : ℕ
-  pub value : ℕ
+  pub match : ℕ
   pub form : Form
   pub is_64_bit : Bool
 
 -- the bits that tell the rows of a class
 abbrev pub mask_of : Class → ℕ
-mask_of Opcode       = 0xfc000000
-mask_of Special      = 0xfc00003f
-mask_of Regimm       = 0xfc1f0000
-mask_of Cop0Move     = 0xffe00000
+mask_of Opcode = 0xfc000000
+mask_of Special = 0xfc00003f
+mask_of Regimm = 0xfc1f0000
+mask_of Cop0Move = 0xffe00000
 mask_of Cop0Function = 0xfe00003f
 
 -- what stands in them, by the row's number in the class
-abbrev pub value_of : Class → ℕ → ℕ
-value_of Opcode number       = number * 2 ^ 26
-value_of Special number      = number
-value_of Regimm number       = 1 * 2 ^ 26 + number * 2 ^ 16
-value_of Cop0Move number     = 16 * 2 ^ 26 + number * 2 ^ 21
-value_of Cop0Function number = 16 * 2 ^ 26 + 2 ^ 25 + number
+abbrev pub match_of : Class → ℕ → ℕ
+match_of Opcode number = number * 2 ^ 26
+match_of Special number = number
+match_of Regimm number = 1 * 2 ^ 26 + number * 2 ^ 16
+match_of Cop0Move number = 16 * 2 ^ 26 + number * 2 ^ 21
+match_of Cop0Function number = 16 * 2 ^ 26 + 2 ^ 25 + number
 
 abbrev pub row : Class → ℕ → List ℕ → Form → Row
-row class number name form = record { name = name; class = class; mask = mask_of class; value = value_of class number; form = form; is_64_bit = false }
+row class number name form = record { name = name; class = class; mask = mask_of class; match = match_of class number; form = form; is_64_bit = false }
 
 abbrev pub row_64 : Class → ℕ → List ℕ → Form → Row
-row_64 class number name form = record { name = name; class = class; mask = mask_of class; value = value_of class number; form = form; is_64_bit = true }
+row_64 class number name form = record { name = name; class = class; mask = mask_of class; match = match_of class number; form = form; is_64_bit = true }
 
 -- by opcode, bits 31:26: rows 0 to 53
 abbrev pub opcode_rows : List Row
@@ -199,7 +199,7 @@ rows = opcode_rows ++ (special_rows ++ (regimm_rows ++ (cop0_move_rows ++ cop0_f
 
 -- no word matches this: it stands for the row of a number above 128
 abbrev pub no_row : Row
-no_row = record { name = []; class = Opcode; mask = 0; value = 1; form = NoOperands; is_64_bit = false }
+no_row = record { name = []; class = Opcode; mask = 0; match = 1; form = NoOperands; is_64_bit = false }
 
 -- the row of a number
 unfoldable pub row_at : ℕ → Row

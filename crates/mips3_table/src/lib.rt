@@ -9,7 +9,12 @@
 //! Reading order: the classes of rows, the forms of operands, an instruction's fields, the table.
 #![tactic(auto)]
 
-pub mod classes;
-pub mod operand_forms;
-pub mod instruction;
-pub mod table;
+mod classes;
+mod instruction;
+mod operand_forms;
+mod table;
+
+pub use classes::{Class, class_of};
+pub use instruction::Inst;
+pub use operand_forms::Form;
+pub use table::{at_most_one_row, form_of, is_64_bit, name_of, row_of};

@@ -4,7 +4,7 @@
 //! row as its number, its name, what stands in the bits that its class reads, the form of its operands, and its
 //! operation's width in bits. A crate above writes a consumer of its own beside the function whose body it fills.
 
-ghost use Rattle.std.specs.Prelude.{◌≡◌, ◌<◌, ◌≤◌, ◌↔◌, ℕ, IsNone, length};
+ghost use Rattle.std.specs.Prelude.{◌≡◌, ◌<◌, ◌≤◌, ◌↔◌, ℕ, IsNone, IfSome, length};
 ghost use Rattle.mips3_table.specs.Rows.{rows, row_at};
 ghost use Rattle.mips3_table.specs.Matching.{AtMostOneRow, IsRowOf, match_in, row_of as row_of_word};
 
@@ -191,16 +191,16 @@ macro_rules! cop0_function_rows {
 }
 
 macro_rules! number_of_match {
-    (($bits:expr) $($number:literal $name:literal $value:literal $form:ident $width:literal,)*) => {
+    (($bits:expr) $($number:literal $name:literal $match:literal $form:ident $width:literal,)*) => {
         match $bits {
-            $($value => Some($number),)*
+            $($match => Some($number),)*
             _ => None,
         }
     };
 }
 
 macro_rules! name_of_row {
-    (($row:expr) $($number:literal $name:literal $value:literal $form:ident $width:literal,)*) => {
+    (($row:expr) $($number:literal $name:literal $match:literal $form:ident $width:literal,)*) => {
         match $row {
             $($number => $name,)*
             _ => unreachable!(),
@@ -209,7 +209,7 @@ macro_rules! name_of_row {
 }
 
 macro_rules! form_of_row {
-    (($row:expr) $($number:literal $name:literal $value:literal $form:ident $width:literal,)*) => {
+    (($row:expr) $($number:literal $name:literal $match:literal $form:ident $width:literal,)*) => {
         match $row {
             $($number => Form::$form,)*
             _ => unreachable!(),
@@ -218,7 +218,7 @@ macro_rules! form_of_row {
 }
 
 macro_rules! is_64_bit_row {
-    (($row:expr) $($number:literal $name:literal $value:literal $form:ident $width:literal,)*) => {
+    (($row:expr) $($number:literal $name:literal $match:literal $form:ident $width:literal,)*) => {
         match $row {
             $($number => $width == 64,)*
             _ => unreachable!(),
@@ -231,14 +231,14 @@ macro_rules! is_64_bit_row {
 pub fn at_most_one_row()
     ensures one { AtMostOneRow }
     ensures count { length rows ≡ 129 }
-{
-}
+{}
 
 /// The number of the row that the word matches. A word that matches none is reserved.
 pub fn row_of(word: u32) -> Option<u8>
     ensures value { result ≡ row_of_word word }
     ensures row { (number : ℕ) → (result ≡ Some number) ↔ IsRowOf word number }
     ensures reserved { IsNone result ↔ ((number : ℕ) → ¬ IsRowOf word number) }
+    ensures in_table { IfSome result (λ number. number < 129) }
 {
     matched_row(word)
 }
@@ -464,3 +464,6 @@ fn cop0_function_is_64_bit(row: u8) -> bool
 {
     cop0_function_rows!(is_64_bit_row, row)
 }
+
+#[cfg(test)]
+mod tests;
