@@ -12,8 +12,8 @@ use mips3_table::{
 };
 
 macro_rules! instruction_of_match {
-    (($bits:expr, $word:expr) $($number:literal $name:literal $match:literal $form:ident $width:literal,)*) => {
-        match $bits {
+    (($word:expr), $mask:literal, $($number:literal $name:literal $match:literal $width:literal $form:ident,)*) => {
+        match $word & $mask {
             $($match => Some(fields_in(Form::$form, $number, $word)),)*
             _ => None,
         }
@@ -21,7 +21,7 @@ macro_rules! instruction_of_match {
 }
 
 macro_rules! word_of_row {
-    (($inst:expr) $($number:literal $name:literal $match:literal $form:ident $width:literal,)*) => {
+    (($inst:expr), $mask:literal, $($number:literal $name:literal $match:literal $width:literal $form:ident,)*) => {
         match $inst.row {
             $($number => $match + fields_of(Form::$form, $inst),)*
             _ => unreachable!(),
@@ -79,35 +79,35 @@ fn word_of(inst: &Inst) -> u32
 fn decode_opcode(word: u32) -> Option<Inst>
     ensures { result ≡ with_fields word (match_in Class.Opcode word) }
 {
-    opcode_rows!(instruction_of_match, word & 0xfc000000, word)
+    opcode_rows!(instruction_of_match, word)
 }
 
 #[tactic(auto, unfolding(mips3_table::specs::Rows::row_at, mips3_table::specs::Rows::rows, mips3_table::specs::Matching::match_in))]
 fn decode_special(word: u32) -> Option<Inst>
     ensures { result ≡ with_fields word (match_in Class.Special word) }
 {
-    special_rows!(instruction_of_match, word & 0xfc00003f, word)
+    special_rows!(instruction_of_match, word)
 }
 
 #[tactic(auto, unfolding(mips3_table::specs::Rows::row_at, mips3_table::specs::Rows::rows, mips3_table::specs::Matching::match_in))]
 fn decode_regimm(word: u32) -> Option<Inst>
     ensures { result ≡ with_fields word (match_in Class.Regimm word) }
 {
-    regimm_rows!(instruction_of_match, word & 0xfc1f0000, word)
+    regimm_rows!(instruction_of_match, word)
 }
 
 #[tactic(auto, unfolding(mips3_table::specs::Rows::row_at, mips3_table::specs::Rows::rows, mips3_table::specs::Matching::match_in))]
 fn decode_cop0_move(word: u32) -> Option<Inst>
     ensures { result ≡ with_fields word (match_in Class.Cop0Move word) }
 {
-    cop0_move_rows!(instruction_of_match, word & 0xffe00000, word)
+    cop0_move_rows!(instruction_of_match, word)
 }
 
 #[tactic(auto, unfolding(mips3_table::specs::Rows::row_at, mips3_table::specs::Rows::rows, mips3_table::specs::Matching::match_in))]
 fn decode_cop0_function(word: u32) -> Option<Inst>
     ensures { result ≡ with_fields word (match_in Class.Cop0Function word) }
 {
-    cop0_function_rows!(instruction_of_match, word & 0xfe00003f, word)
+    cop0_function_rows!(instruction_of_match, word)
 }
 
 #[tactic(auto, unfolding(mips3_table::specs::Rows::row_at, mips3_table::specs::Rows::rows, crate::specs::Coding::encoded))]

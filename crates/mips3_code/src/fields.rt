@@ -1,7 +1,7 @@
 //! The fields of a form of operands, taken from a word and put at their places in one.
 
 ghost use Rattle.std.specs.Prelude.{◌≡◌, ◌<◌, ◌≤◌, ◌*◌, ◌/◌, ◌%◌, ◌^◌};
-ghost use Rattle.mips3_table.specs.Operands.{widths_of};
+ghost use Rattle.mips3_table.specs.Operands.{bits_of, widths_of};
 ghost use Rattle.mips3_table.specs.Instructions.{FitsWidths};
 ghost use Rattle.mips3_code.specs.Coding.{fields_by, placed_by};
 
@@ -11,63 +11,32 @@ use mips3_table::{Form, Inst};
 pub fn fields_in(form: Form, row: u8, word: u32) -> Inst
     ensures { result ≡ fields_by (widths_of form) row word }
 {
-    let (rs, rt, rd, sa) = (
-        register(word, 21),
-        register(word, 16),
-        register(word, 11),
-        register(word, 6),
-    );
+    let (rs, rt) = (register(word, 21), register(word, 16));
+    let (rd, sa) = (register(word, 11), register(word, 6));
     let none = Inst {
         row,
         rs: 0,
         rt: 0,
         rd: 0,
         sa: 0,
-        imm: 0,
+        imm: number_in(form, word),
     };
     match form {
-        Form::Target | Form::CoprocessorNumber => Inst {
-            imm: word & 0x03ffffff,
-            ..none
-        },
+        Form::Target | Form::CoprocessorNumber | Form::Code | Form::NoOperands => none,
         Form::CompareBranch
         | Form::SignedImmediate
         | Form::UnsignedImmediate
         | Form::Memory
         | Form::CacheOperation
-        | Form::CoprocessorMemory => Inst {
-            rs,
-            rt,
-            imm: word & 0xffff,
-            ..none
-        },
-        Form::ZeroBranch | Form::TrapImmediate => Inst {
-            rs,
-            imm: word & 0xffff,
-            ..none
-        },
-        Form::UpperImmediate => Inst {
-            rt,
-            imm: word & 0xffff,
-            ..none
-        },
+        | Form::CoprocessorMemory
+        | Form::TwoSources
+        | Form::TrapRegisters => Inst { rs, rt, ..none },
+        Form::ZeroBranch | Form::TrapImmediate | Form::Source => Inst { rs, ..none },
+        Form::UpperImmediate => Inst { rt, ..none },
         Form::Shift => Inst { rt, rd, sa, ..none },
         Form::ShiftByRegister | Form::ThreeRegisters => Inst { rs, rt, rd, ..none },
-        Form::Source => Inst { rs, ..none },
         Form::JumpAndLinkRegister => Inst { rs, rd, ..none },
-        Form::Code => Inst {
-            imm: word >> 6 & 0x000fffff,
-            ..none
-        },
-        Form::NoOperands => none,
         Form::Destination => Inst { rd, ..none },
-        Form::TwoSources => Inst { rs, rt, ..none },
-        Form::TrapRegisters => Inst {
-            rs,
-            rt,
-            imm: word >> 6 & 0x3ff,
-            ..none
-        },
         Form::Cp0Move => Inst { rt, rd, ..none },
     }
 }
@@ -103,6 +72,28 @@ pub fn fields_of(form: Form, inst: &Inst) -> u32
     }
 }
 
+/// The number of a form as it stands in the word, 0 where the form has none.
+fn number_in(form: Form, word: u32) -> u32
+    ensures { result ≡ bits_of word (widths_of form).number_at (widths_of form).number }
+{
+    match form {
+        Form::Target | Form::CoprocessorNumber => word & 0x03ffffff,
+        Form::Code => word >> 6 & 0xfffff,
+        Form::TrapRegisters => word >> 6 & 0x3ff,
+        Form::CompareBranch
+        | Form::ZeroBranch
+        | Form::SignedImmediate
+        | Form::UnsignedImmediate
+        | Form::UpperImmediate
+        | Form::Memory
+        | Form::CacheOperation
+        | Form::CoprocessorMemory
+        | Form::TrapImmediate => word & 0xffff,
+        _ => 0,
+    }
+}
+
+/// What stands in the 5 bits of a word from this one up.
 fn register(word: u32, low: u8) -> u8
     requires { low < 32 }
     ensures { result ≡ word / 2 ^ low % 2 ^ 5 }
@@ -110,6 +101,7 @@ fn register(word: u32, low: u8) -> u8
     (word >> low & 0x1f) as u8
 }
 
+/// A field of 5 bits at its place in a word.
 #[tactic(auto, using(crate::proofs::Placing::shifted_field))]
 fn placed(field: u8, low: u8) -> u32
     requires small { field < 32 }

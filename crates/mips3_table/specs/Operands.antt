@@ -30,8 +30,7 @@ rd_at = 11
 abbrev pub sa_at : ℕ
 sa_at = 6
 
--- The 22 forms. A shift's amount alone uses sa.
---                                          rs rt rd sa  number, at
+-- The widths of the 22 forms: rs, rt, rd, sa, then the number and its lowest bit.
 abbrev pub widths_of : Form → Widths
 widths_of Target = widths 0 0 0 0 26 0
 widths_of CompareBranch = widths 5 5 0 0 16 0

@@ -42,8 +42,10 @@ row_64 class number name form = record { name = name; class = class; mask = mask
 -- by opcode, bits 31:26: rows 0 to 53
 abbrev pub opcode_rows : List Row
 opcode_rows =
+    -- jumps
     row Opcode 2 (codes "j") Target ∷
     row Opcode 3 (codes "jal") Target ∷
+    -- branches
     row Opcode 4 (codes "beq") CompareBranch ∷
     row Opcode 5 (codes "bne") CompareBranch ∷
     row Opcode 20 (codes "beql") CompareBranch ∷
@@ -52,6 +54,7 @@ opcode_rows =
     row Opcode 7 (codes "bgtz") ZeroBranch ∷
     row Opcode 22 (codes "blezl") ZeroBranch ∷
     row Opcode 23 (codes "bgtzl") ZeroBranch ∷
+    -- immediates
     row Opcode 8 (codes "addi") SignedImmediate ∷
     row Opcode 9 (codes "addiu") SignedImmediate ∷
     row Opcode 10 (codes "slti") SignedImmediate ∷
@@ -62,6 +65,7 @@ opcode_rows =
     row Opcode 13 (codes "ori") UnsignedImmediate ∷
     row Opcode 14 (codes "xori") UnsignedImmediate ∷
     row Opcode 15 (codes "lui") UpperImmediate ∷
+    -- loads
     row_64 Opcode 26 (codes "ldl") Memory ∷
     row_64 Opcode 27 (codes "ldr") Memory ∷
     row Opcode 32 (codes "lb") Memory ∷
@@ -75,6 +79,7 @@ opcode_rows =
     row Opcode 48 (codes "ll") Memory ∷
     row_64 Opcode 52 (codes "lld") Memory ∷
     row_64 Opcode 55 (codes "ld") Memory ∷
+    -- stores
     row Opcode 40 (codes "sb") Memory ∷
     row Opcode 41 (codes "sh") Memory ∷
     row Opcode 42 (codes "swl") Memory ∷
@@ -85,7 +90,9 @@ opcode_rows =
     row Opcode 56 (codes "sc") Memory ∷
     row_64 Opcode 60 (codes "scd") Memory ∷
     row_64 Opcode 63 (codes "sd") Memory ∷
+    -- the cache operation
     row Opcode 47 (codes "cache") CacheOperation ∷
+    -- coprocessors 1 and 2: their operations, loads and stores
     row Opcode 17 (codes "cop1") CoprocessorNumber ∷
     row Opcode 18 (codes "cop2") CoprocessorNumber ∷
     row Opcode 49 (codes "lwc1") CoprocessorMemory ∷
@@ -101,6 +108,7 @@ opcode_rows =
 -- opcode 0 (SPECIAL), by function, bits 5:0: rows 54 to 105
 abbrev pub special_rows : List Row
 special_rows =
+    -- shifts
     row Special 0 (codes "sll") Shift ∷
     row Special 2 (codes "srl") Shift ∷
     row Special 3 (codes "sra") Shift ∷
@@ -116,11 +124,14 @@ special_rows =
     row_64 Special 20 (codes "dsllv") ShiftByRegister ∷
     row_64 Special 22 (codes "dsrlv") ShiftByRegister ∷
     row_64 Special 23 (codes "dsrav") ShiftByRegister ∷
+    -- jumps to a register
     row Special 8 (codes "jr") Source ∷
     row Special 9 (codes "jalr") JumpAndLinkRegister ∷
+    -- system call, breakpoint, synchronization
     row Special 12 (codes "syscall") Code ∷
     row Special 13 (codes "break") Code ∷
     row Special 15 (codes "sync") NoOperands ∷
+    -- HI and LO, products and quotients
     row Special 16 (codes "mfhi") Destination ∷
     row Special 18 (codes "mflo") Destination ∷
     row Special 17 (codes "mthi") Source ∷
@@ -133,6 +144,7 @@ special_rows =
     row_64 Special 29 (codes "dmultu") TwoSources ∷
     row_64 Special 30 (codes "ddiv") TwoSources ∷
     row_64 Special 31 (codes "ddivu") TwoSources ∷
+    -- sums, logic, comparisons
     row Special 32 (codes "add") ThreeRegisters ∷
     row Special 33 (codes "addu") ThreeRegisters ∷
     row Special 34 (codes "sub") ThreeRegisters ∷
@@ -147,6 +159,7 @@ special_rows =
     row_64 Special 45 (codes "daddu") ThreeRegisters ∷
     row_64 Special 46 (codes "dsub") ThreeRegisters ∷
     row_64 Special 47 (codes "dsubu") ThreeRegisters ∷
+    -- traps on registers
     row Special 48 (codes "tge") TrapRegisters ∷
     row Special 49 (codes "tgeu") TrapRegisters ∷
     row Special 50 (codes "tlt") TrapRegisters ∷
@@ -158,6 +171,7 @@ special_rows =
 -- opcode 1 (REGIMM), by bits 20:16: rows 106 to 119
 abbrev pub regimm_rows : List Row
 regimm_rows =
+    -- branches
     row Regimm 0 (codes "bltz") ZeroBranch ∷
     row Regimm 1 (codes "bgez") ZeroBranch ∷
     row Regimm 2 (codes "bltzl") ZeroBranch ∷
@@ -166,6 +180,7 @@ regimm_rows =
     row Regimm 17 (codes "bgezal") ZeroBranch ∷
     row Regimm 18 (codes "bltzall") ZeroBranch ∷
     row Regimm 19 (codes "bgezall") ZeroBranch ∷
+    -- traps on an immediate
     row Regimm 8 (codes "tgei") TrapImmediate ∷
     row Regimm 9 (codes "tgeiu") TrapImmediate ∷
     row Regimm 10 (codes "tlti") TrapImmediate ∷

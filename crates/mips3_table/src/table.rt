@@ -1,8 +1,9 @@
 //! The table in code: a list of rows for each class, and what is read from it.
 //!
-//! Each list is a macro that hands its rows to another macro, `consumer`, together with the arguments of the call: a
-//! row as its number, its name, what stands in the bits that its class reads, the form of its operands, and its
-//! operation's width in bits. A crate above writes a consumer of its own beside the function whose body it fills.
+//! Each list is a macro that hands its rows to another macro, `consumer`: the arguments of the call in parentheses, the
+//! bits that the class reads, and each row as its number, its name, what stands in those bits, the width of its
+//! operation in bits, and the form of its operands. A crate above writes a consumer of its own, beside the function
+//! whose body it fills.
 
 ghost use Rattle.std.specs.Prelude.{◌≡◌, ◌<◌, ◌≤◌, ◌↔◌, ℕ, IsNone, IfSome, length};
 ghost use Rattle.mips3_table.specs.Rows.{rows, row_at};
@@ -16,61 +17,61 @@ use crate::operand_forms::Form;
 macro_rules! opcode_rows {
     ($consumer:ident, $($argument:expr),*) => {
         $consumer! {
-            ($($argument),*)
-            0 "j" 0x08000000 Target 32,
-            1 "jal" 0x0c000000 Target 32,
-            2 "beq" 0x10000000 CompareBranch 32,
-            3 "bne" 0x14000000 CompareBranch 32,
-            4 "beql" 0x50000000 CompareBranch 32,
-            5 "bnel" 0x54000000 CompareBranch 32,
-            6 "blez" 0x18000000 ZeroBranch 32,
-            7 "bgtz" 0x1c000000 ZeroBranch 32,
-            8 "blezl" 0x58000000 ZeroBranch 32,
-            9 "bgtzl" 0x5c000000 ZeroBranch 32,
-            10 "addi" 0x20000000 SignedImmediate 32,
-            11 "addiu" 0x24000000 SignedImmediate 32,
-            12 "slti" 0x28000000 SignedImmediate 32,
-            13 "sltiu" 0x2c000000 SignedImmediate 32,
-            14 "daddi" 0x60000000 SignedImmediate 64,
-            15 "daddiu" 0x64000000 SignedImmediate 64,
-            16 "andi" 0x30000000 UnsignedImmediate 32,
-            17 "ori" 0x34000000 UnsignedImmediate 32,
-            18 "xori" 0x38000000 UnsignedImmediate 32,
-            19 "lui" 0x3c000000 UpperImmediate 32,
-            20 "ldl" 0x68000000 Memory 64,
-            21 "ldr" 0x6c000000 Memory 64,
-            22 "lb" 0x80000000 Memory 32,
-            23 "lh" 0x84000000 Memory 32,
-            24 "lwl" 0x88000000 Memory 32,
-            25 "lw" 0x8c000000 Memory 32,
-            26 "lbu" 0x90000000 Memory 32,
-            27 "lhu" 0x94000000 Memory 32,
-            28 "lwr" 0x98000000 Memory 32,
-            29 "lwu" 0x9c000000 Memory 64,
-            30 "ll" 0xc0000000 Memory 32,
-            31 "lld" 0xd0000000 Memory 64,
-            32 "ld" 0xdc000000 Memory 64,
-            33 "sb" 0xa0000000 Memory 32,
-            34 "sh" 0xa4000000 Memory 32,
-            35 "swl" 0xa8000000 Memory 32,
-            36 "sw" 0xac000000 Memory 32,
-            37 "sdl" 0xb0000000 Memory 64,
-            38 "sdr" 0xb4000000 Memory 64,
-            39 "swr" 0xb8000000 Memory 32,
-            40 "sc" 0xe0000000 Memory 32,
-            41 "scd" 0xf0000000 Memory 64,
-            42 "sd" 0xfc000000 Memory 64,
-            43 "cache" 0xbc000000 CacheOperation 32,
-            44 "cop1" 0x44000000 CoprocessorNumber 32,
-            45 "cop2" 0x48000000 CoprocessorNumber 32,
-            46 "lwc1" 0xc4000000 CoprocessorMemory 32,
-            47 "lwc2" 0xc8000000 CoprocessorMemory 32,
-            48 "ldc1" 0xd4000000 CoprocessorMemory 32,
-            49 "ldc2" 0xd8000000 CoprocessorMemory 32,
-            50 "swc1" 0xe4000000 CoprocessorMemory 32,
-            51 "swc2" 0xe8000000 CoprocessorMemory 32,
-            52 "sdc1" 0xf4000000 CoprocessorMemory 32,
-            53 "sdc2" 0xf8000000 CoprocessorMemory 32,
+            ($($argument),*), 0xfc000000,
+            0   "j"       0x08000000 32 Target,
+            1   "jal"     0x0c000000 32 Target,
+            2   "beq"     0x10000000 32 CompareBranch,
+            3   "bne"     0x14000000 32 CompareBranch,
+            4   "beql"    0x50000000 32 CompareBranch,
+            5   "bnel"    0x54000000 32 CompareBranch,
+            6   "blez"    0x18000000 32 ZeroBranch,
+            7   "bgtz"    0x1c000000 32 ZeroBranch,
+            8   "blezl"   0x58000000 32 ZeroBranch,
+            9   "bgtzl"   0x5c000000 32 ZeroBranch,
+            10  "addi"    0x20000000 32 SignedImmediate,
+            11  "addiu"   0x24000000 32 SignedImmediate,
+            12  "slti"    0x28000000 32 SignedImmediate,
+            13  "sltiu"   0x2c000000 32 SignedImmediate,
+            14  "daddi"   0x60000000 64 SignedImmediate,
+            15  "daddiu"  0x64000000 64 SignedImmediate,
+            16  "andi"    0x30000000 32 UnsignedImmediate,
+            17  "ori"     0x34000000 32 UnsignedImmediate,
+            18  "xori"    0x38000000 32 UnsignedImmediate,
+            19  "lui"     0x3c000000 32 UpperImmediate,
+            20  "ldl"     0x68000000 64 Memory,
+            21  "ldr"     0x6c000000 64 Memory,
+            22  "lb"      0x80000000 32 Memory,
+            23  "lh"      0x84000000 32 Memory,
+            24  "lwl"     0x88000000 32 Memory,
+            25  "lw"      0x8c000000 32 Memory,
+            26  "lbu"     0x90000000 32 Memory,
+            27  "lhu"     0x94000000 32 Memory,
+            28  "lwr"     0x98000000 32 Memory,
+            29  "lwu"     0x9c000000 64 Memory,
+            30  "ll"      0xc0000000 32 Memory,
+            31  "lld"     0xd0000000 64 Memory,
+            32  "ld"      0xdc000000 64 Memory,
+            33  "sb"      0xa0000000 32 Memory,
+            34  "sh"      0xa4000000 32 Memory,
+            35  "swl"     0xa8000000 32 Memory,
+            36  "sw"      0xac000000 32 Memory,
+            37  "sdl"     0xb0000000 64 Memory,
+            38  "sdr"     0xb4000000 64 Memory,
+            39  "swr"     0xb8000000 32 Memory,
+            40  "sc"      0xe0000000 32 Memory,
+            41  "scd"     0xf0000000 64 Memory,
+            42  "sd"      0xfc000000 64 Memory,
+            43  "cache"   0xbc000000 32 CacheOperation,
+            44  "cop1"    0x44000000 32 CoprocessorNumber,
+            45  "cop2"    0x48000000 32 CoprocessorNumber,
+            46  "lwc1"    0xc4000000 32 CoprocessorMemory,
+            47  "lwc2"    0xc8000000 32 CoprocessorMemory,
+            48  "ldc1"    0xd4000000 32 CoprocessorMemory,
+            49  "ldc2"    0xd8000000 32 CoprocessorMemory,
+            50  "swc1"    0xe4000000 32 CoprocessorMemory,
+            51  "swc2"    0xe8000000 32 CoprocessorMemory,
+            52  "sdc1"    0xf4000000 32 CoprocessorMemory,
+            53  "sdc2"    0xf8000000 32 CoprocessorMemory,
         }
     };
 }
@@ -80,59 +81,59 @@ macro_rules! opcode_rows {
 macro_rules! special_rows {
     ($consumer:ident, $($argument:expr),*) => {
         $consumer! {
-            ($($argument),*)
-            54 "sll" 0x00000000 Shift 32,
-            55 "srl" 0x00000002 Shift 32,
-            56 "sra" 0x00000003 Shift 32,
-            57 "dsll" 0x00000038 Shift 64,
-            58 "dsrl" 0x0000003a Shift 64,
-            59 "dsra" 0x0000003b Shift 64,
-            60 "dsll32" 0x0000003c Shift 64,
-            61 "dsrl32" 0x0000003e Shift 64,
-            62 "dsra32" 0x0000003f Shift 64,
-            63 "sllv" 0x00000004 ShiftByRegister 32,
-            64 "srlv" 0x00000006 ShiftByRegister 32,
-            65 "srav" 0x00000007 ShiftByRegister 32,
-            66 "dsllv" 0x00000014 ShiftByRegister 64,
-            67 "dsrlv" 0x00000016 ShiftByRegister 64,
-            68 "dsrav" 0x00000017 ShiftByRegister 64,
-            69 "jr" 0x00000008 Source 32,
-            70 "jalr" 0x00000009 JumpAndLinkRegister 32,
-            71 "syscall" 0x0000000c Code 32,
-            72 "break" 0x0000000d Code 32,
-            73 "sync" 0x0000000f NoOperands 32,
-            74 "mfhi" 0x00000010 Destination 32,
-            75 "mflo" 0x00000012 Destination 32,
-            76 "mthi" 0x00000011 Source 32,
-            77 "mtlo" 0x00000013 Source 32,
-            78 "mult" 0x00000018 TwoSources 32,
-            79 "multu" 0x00000019 TwoSources 32,
-            80 "div" 0x0000001a TwoSources 32,
-            81 "divu" 0x0000001b TwoSources 32,
-            82 "dmult" 0x0000001c TwoSources 64,
-            83 "dmultu" 0x0000001d TwoSources 64,
-            84 "ddiv" 0x0000001e TwoSources 64,
-            85 "ddivu" 0x0000001f TwoSources 64,
-            86 "add" 0x00000020 ThreeRegisters 32,
-            87 "addu" 0x00000021 ThreeRegisters 32,
-            88 "sub" 0x00000022 ThreeRegisters 32,
-            89 "subu" 0x00000023 ThreeRegisters 32,
-            90 "and" 0x00000024 ThreeRegisters 32,
-            91 "or" 0x00000025 ThreeRegisters 32,
-            92 "xor" 0x00000026 ThreeRegisters 32,
-            93 "nor" 0x00000027 ThreeRegisters 32,
-            94 "slt" 0x0000002a ThreeRegisters 32,
-            95 "sltu" 0x0000002b ThreeRegisters 32,
-            96 "dadd" 0x0000002c ThreeRegisters 64,
-            97 "daddu" 0x0000002d ThreeRegisters 64,
-            98 "dsub" 0x0000002e ThreeRegisters 64,
-            99 "dsubu" 0x0000002f ThreeRegisters 64,
-            100 "tge" 0x00000030 TrapRegisters 32,
-            101 "tgeu" 0x00000031 TrapRegisters 32,
-            102 "tlt" 0x00000032 TrapRegisters 32,
-            103 "tltu" 0x00000033 TrapRegisters 32,
-            104 "teq" 0x00000034 TrapRegisters 32,
-            105 "tne" 0x00000036 TrapRegisters 32,
+            ($($argument),*), 0xfc00003f,
+            54  "sll"     0x00000000 32 Shift,
+            55  "srl"     0x00000002 32 Shift,
+            56  "sra"     0x00000003 32 Shift,
+            57  "dsll"    0x00000038 64 Shift,
+            58  "dsrl"    0x0000003a 64 Shift,
+            59  "dsra"    0x0000003b 64 Shift,
+            60  "dsll32"  0x0000003c 64 Shift,
+            61  "dsrl32"  0x0000003e 64 Shift,
+            62  "dsra32"  0x0000003f 64 Shift,
+            63  "sllv"    0x00000004 32 ShiftByRegister,
+            64  "srlv"    0x00000006 32 ShiftByRegister,
+            65  "srav"    0x00000007 32 ShiftByRegister,
+            66  "dsllv"   0x00000014 64 ShiftByRegister,
+            67  "dsrlv"   0x00000016 64 ShiftByRegister,
+            68  "dsrav"   0x00000017 64 ShiftByRegister,
+            69  "jr"      0x00000008 32 Source,
+            70  "jalr"    0x00000009 32 JumpAndLinkRegister,
+            71  "syscall" 0x0000000c 32 Code,
+            72  "break"   0x0000000d 32 Code,
+            73  "sync"    0x0000000f 32 NoOperands,
+            74  "mfhi"    0x00000010 32 Destination,
+            75  "mflo"    0x00000012 32 Destination,
+            76  "mthi"    0x00000011 32 Source,
+            77  "mtlo"    0x00000013 32 Source,
+            78  "mult"    0x00000018 32 TwoSources,
+            79  "multu"   0x00000019 32 TwoSources,
+            80  "div"     0x0000001a 32 TwoSources,
+            81  "divu"    0x0000001b 32 TwoSources,
+            82  "dmult"   0x0000001c 64 TwoSources,
+            83  "dmultu"  0x0000001d 64 TwoSources,
+            84  "ddiv"    0x0000001e 64 TwoSources,
+            85  "ddivu"   0x0000001f 64 TwoSources,
+            86  "add"     0x00000020 32 ThreeRegisters,
+            87  "addu"    0x00000021 32 ThreeRegisters,
+            88  "sub"     0x00000022 32 ThreeRegisters,
+            89  "subu"    0x00000023 32 ThreeRegisters,
+            90  "and"     0x00000024 32 ThreeRegisters,
+            91  "or"      0x00000025 32 ThreeRegisters,
+            92  "xor"     0x00000026 32 ThreeRegisters,
+            93  "nor"     0x00000027 32 ThreeRegisters,
+            94  "slt"     0x0000002a 32 ThreeRegisters,
+            95  "sltu"    0x0000002b 32 ThreeRegisters,
+            96  "dadd"    0x0000002c 64 ThreeRegisters,
+            97  "daddu"   0x0000002d 64 ThreeRegisters,
+            98  "dsub"    0x0000002e 64 ThreeRegisters,
+            99  "dsubu"   0x0000002f 64 ThreeRegisters,
+            100 "tge"     0x00000030 32 TrapRegisters,
+            101 "tgeu"    0x00000031 32 TrapRegisters,
+            102 "tlt"     0x00000032 32 TrapRegisters,
+            103 "tltu"    0x00000033 32 TrapRegisters,
+            104 "teq"     0x00000034 32 TrapRegisters,
+            105 "tne"     0x00000036 32 TrapRegisters,
         }
     };
 }
@@ -142,21 +143,21 @@ macro_rules! special_rows {
 macro_rules! regimm_rows {
     ($consumer:ident, $($argument:expr),*) => {
         $consumer! {
-            ($($argument),*)
-            106 "bltz" 0x04000000 ZeroBranch 32,
-            107 "bgez" 0x04010000 ZeroBranch 32,
-            108 "bltzl" 0x04020000 ZeroBranch 32,
-            109 "bgezl" 0x04030000 ZeroBranch 32,
-            110 "bltzal" 0x04100000 ZeroBranch 32,
-            111 "bgezal" 0x04110000 ZeroBranch 32,
-            112 "bltzall" 0x04120000 ZeroBranch 32,
-            113 "bgezall" 0x04130000 ZeroBranch 32,
-            114 "tgei" 0x04080000 TrapImmediate 32,
-            115 "tgeiu" 0x04090000 TrapImmediate 32,
-            116 "tlti" 0x040a0000 TrapImmediate 32,
-            117 "tltiu" 0x040b0000 TrapImmediate 32,
-            118 "teqi" 0x040c0000 TrapImmediate 32,
-            119 "tnei" 0x040e0000 TrapImmediate 32,
+            ($($argument),*), 0xfc1f0000,
+            106 "bltz"    0x04000000 32 ZeroBranch,
+            107 "bgez"    0x04010000 32 ZeroBranch,
+            108 "bltzl"   0x04020000 32 ZeroBranch,
+            109 "bgezl"   0x04030000 32 ZeroBranch,
+            110 "bltzal"  0x04100000 32 ZeroBranch,
+            111 "bgezal"  0x04110000 32 ZeroBranch,
+            112 "bltzall" 0x04120000 32 ZeroBranch,
+            113 "bgezall" 0x04130000 32 ZeroBranch,
+            114 "tgei"    0x04080000 32 TrapImmediate,
+            115 "tgeiu"   0x04090000 32 TrapImmediate,
+            116 "tlti"    0x040a0000 32 TrapImmediate,
+            117 "tltiu"   0x040b0000 32 TrapImmediate,
+            118 "teqi"    0x040c0000 32 TrapImmediate,
+            119 "tnei"    0x040e0000 32 TrapImmediate,
         }
     };
 }
@@ -166,11 +167,11 @@ macro_rules! regimm_rows {
 macro_rules! cop0_move_rows {
     ($consumer:ident, $($argument:expr),*) => {
         $consumer! {
-            ($($argument),*)
-            120 "mfc0" 0x40000000 Cp0Move 32,
-            121 "dmfc0" 0x40200000 Cp0Move 64,
-            122 "mtc0" 0x40800000 Cp0Move 32,
-            123 "dmtc0" 0x40a00000 Cp0Move 64,
+            ($($argument),*), 0xffe00000,
+            120 "mfc0"    0x40000000 32 Cp0Move,
+            121 "dmfc0"   0x40200000 64 Cp0Move,
+            122 "mtc0"    0x40800000 32 Cp0Move,
+            123 "dmtc0"   0x40a00000 64 Cp0Move,
         }
     };
 }
@@ -180,19 +181,19 @@ macro_rules! cop0_move_rows {
 macro_rules! cop0_function_rows {
     ($consumer:ident, $($argument:expr),*) => {
         $consumer! {
-            ($($argument),*)
-            124 "tlbr" 0x42000001 NoOperands 32,
-            125 "tlbwi" 0x42000002 NoOperands 32,
-            126 "tlbwr" 0x42000006 NoOperands 32,
-            127 "tlbp" 0x42000008 NoOperands 32,
-            128 "eret" 0x42000018 NoOperands 32,
+            ($($argument),*), 0xfe00003f,
+            124 "tlbr"    0x42000001 32 NoOperands,
+            125 "tlbwi"   0x42000002 32 NoOperands,
+            126 "tlbwr"   0x42000006 32 NoOperands,
+            127 "tlbp"    0x42000008 32 NoOperands,
+            128 "eret"    0x42000018 32 NoOperands,
         }
     };
 }
 
 macro_rules! number_of_match {
-    (($bits:expr) $($number:literal $name:literal $match:literal $form:ident $width:literal,)*) => {
-        match $bits {
+    (($word:expr), $mask:literal, $($number:literal $name:literal $match:literal $width:literal $form:ident,)*) => {
+        match $word & $mask {
             $($match => Some($number),)*
             _ => None,
         }
@@ -200,7 +201,7 @@ macro_rules! number_of_match {
 }
 
 macro_rules! name_of_row {
-    (($row:expr) $($number:literal $name:literal $match:literal $form:ident $width:literal,)*) => {
+    (($row:expr), $mask:literal, $($number:literal $name:literal $match:literal $width:literal $form:ident,)*) => {
         match $row {
             $($number => $name,)*
             _ => unreachable!(),
@@ -209,7 +210,7 @@ macro_rules! name_of_row {
 }
 
 macro_rules! form_of_row {
-    (($row:expr) $($number:literal $name:literal $match:literal $form:ident $width:literal,)*) => {
+    (($row:expr), $mask:literal, $($number:literal $name:literal $match:literal $width:literal $form:ident,)*) => {
         match $row {
             $($number => Form::$form,)*
             _ => unreachable!(),
@@ -218,7 +219,7 @@ macro_rules! form_of_row {
 }
 
 macro_rules! is_64_bit_row {
-    (($row:expr) $($number:literal $name:literal $match:literal $form:ident $width:literal,)*) => {
+    (($row:expr), $mask:literal, $($number:literal $name:literal $match:literal $width:literal $form:ident,)*) => {
         match $row {
             $($number => $width == 64,)*
             _ => unreachable!(),
@@ -260,35 +261,35 @@ fn matched_row(word: u32) -> Option<u8>
 fn opcode_row(word: u32) -> Option<u8>
     ensures { result ≡ match_in Class.Opcode word }
 {
-    opcode_rows!(number_of_match, word & 0xfc000000)
+    opcode_rows!(number_of_match, word)
 }
 
 #[tactic(auto, unfolding(crate::specs::Matching::match_in))]
 fn special_row(word: u32) -> Option<u8>
     ensures { result ≡ match_in Class.Special word }
 {
-    special_rows!(number_of_match, word & 0xfc00003f)
+    special_rows!(number_of_match, word)
 }
 
 #[tactic(auto, unfolding(crate::specs::Matching::match_in))]
 fn regimm_row(word: u32) -> Option<u8>
     ensures { result ≡ match_in Class.Regimm word }
 {
-    regimm_rows!(number_of_match, word & 0xfc1f0000)
+    regimm_rows!(number_of_match, word)
 }
 
 #[tactic(auto, unfolding(crate::specs::Matching::match_in))]
 fn cop0_move_row(word: u32) -> Option<u8>
     ensures { result ≡ match_in Class.Cop0Move word }
 {
-    cop0_move_rows!(number_of_match, word & 0xffe00000)
+    cop0_move_rows!(number_of_match, word)
 }
 
 #[tactic(auto, unfolding(crate::specs::Matching::match_in))]
 fn cop0_function_row(word: u32) -> Option<u8>
     ensures { result ≡ match_in Class.Cop0Function word }
 {
-    cop0_function_rows!(number_of_match, word & 0xfe00003f)
+    cop0_function_rows!(number_of_match, word)
 }
 
 /// The name of a row, as an assembler writes it.
