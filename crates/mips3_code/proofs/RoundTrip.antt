@@ -1,6 +1,6 @@
 -- Decoding and encoding undo each other: the bits of a row's class, its fields and its unused bits share none, and are
 -- all of a word. That is a test on each row, computed over the table.
-use Rattle.std.proofs.Common.{◌≡◌, ◌==◌, ◌&&◌, ℕ, ◌+◌, ◌-◌, ◌*◌, ◌/◌, ◌%◌, ◌^◌, ◌<◌, ◌≤◌, Bool, true, List, [], ◌∷◌, Option, Some, None, length, bit_and, slice_index_or, refl, sym, ap, subst, ◌∙◌, arith}
+use Rattle.std.proofs.Common.{◌≡◌, ◌==◌, ◌&&◌, ℕ, ◌+◌, ◌-◌, ◌*◌, ◌/◌, ◌^◌, ◌<◌, Bool, true, List, [], ◌∷◌, Option, Some, None, length, bit_and, slice_index_or, refl, sym, ap, ◌∙◌, arith}
 use Rattle.std.proofs.Common.{IsNone, IfSome, ◌↔◌}
 use Rattle.std.specs.List.{list_all}
 use Rattle.std.proofs.lemmas.Bool.{and_parts, eqb-true}
@@ -8,13 +8,13 @@ use Rattle.std.proofs.lemmas.Nat.{pow_pos}
 use Rattle.std.proofs.lemmas.Nat.Bits.{and_high}
 use Rattle.std.proofs.Math.Nat.{mod-lt}
 use Rattle.mips3_table.specs.declared.instruction.Inst.{Inst}
-use Rattle.mips3_table.specs.Operands.{Widths, widths_of, bits_of, ones, operand_bits, rs_at, rt_at, rd_at, sa_at}
+use Rattle.mips3_table.specs.Operands.{Widths, widths_of, bits_of, ones, rs_at, rt_at, rd_at, sa_at}
 use Rattle.mips3_table.specs.Rows.{Row, rows, row_at, no_row}
-use Rattle.mips3_table.specs.Matching.{row_of, IsRowOf}
+use Rattle.mips3_table.specs.Matching.{row_of}
 use Rattle.mips3_table.specs.Instructions.{widths_at, FitsWidths, IsInst}
 use Rattle.mips3_table.proofs.Apart.{each_at, rows_count, row_of_match, match_of_row}
 use Rattle.mips3_code.specs.Coding.{fields_by, fields_of, with_fields, decoded, placed_by, encoded, unused_bits, HasNoUnused}
-use Rattle.mips3_code.proofs.Parts.{Part, no_part, total, Laid, Within, disjoint, masks_of, laid_from, part_read, field_within, field_read, whole, read_in, word_read}
+use Rattle.mips3_code.proofs.Parts.{Part, no_part, total, Laid, disjoint, laid_from, part_read, field_within, field_read, whole, read_in, word_read}
 
 -- the bits of a word by a row: unused, the fields, the row's own
 abbrev pub bits_by : Row → List ℕ

@@ -1,7 +1,7 @@
 -- A word's row is found among the rows of its class alone.
-use Rattle.std.proofs.Common.{◌≡◌, ◌≢◌, ◌==◌, ℕ, ◌+◌, ◌-◌, ◌/◌, ◌%◌, ◌^◌, Bool, true, false, not, ◌&&◌, ◌||◌, List, [], ◌∷◌, ◌++◌, Option, Some, None, length, bit_and, refl, sym, ap, ◌∙◌, ⊎_elim, arith, if◌then◌else◌, add_assoc}
+use Rattle.std.proofs.Common.{◌≡◌, ◌≢◌, ◌==◌, ℕ, ◌+◌, ◌-◌, ◌/◌, ◌%◌, ◌^◌, Bool, true, false, not, ◌&&◌, ◌||◌, List, [], ◌∷◌, ◌++◌, Option, Some, None, length, bit_and, refl, sym, ap, ◌∙◌, ⊎_elim, arith, if◌then◌else◌}
 use Rattle.std.specs.List.{list_all}
-use Rattle.std.proofs.lemmas.Bool.{eqb-true, eqb-false, and_parts, or_cases, cases_Bool, not-true}
+use Rattle.std.proofs.lemmas.Bool.{eqb-true, and_parts, or_cases, cases_Bool, not-true}
 use Rattle.std.proofs.lemmas.Nat.{and_mask, and_shr, and_mod}
 use Rattle.std.proofs.Math.Nat.{mod-mod}
 use Rattle.mips3_table.specs.declared.classes.Class.{Class}

@@ -1,6 +1,6 @@
 -- What holds of the fields of an instruction, whatever its row: a register's field is below 32, and the number fits 26
 -- bits.
-use Rattle.std.proofs.Common.{ℕ, ◌^◌, ◌<◌, ◌≤◌, arith}
+use Rattle.std.proofs.Common.{◌^◌, ◌<◌, ◌≤◌, arith}
 use Rattle.mips3_table.specs.declared.operand_forms.Form.{Form}
 use Rattle.mips3_table.specs.declared.operand_forms.Form.TheVariants.{Target}
 use Rattle.mips3_table.specs.declared.instruction.Inst.{Inst}
