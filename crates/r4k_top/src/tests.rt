@@ -1,6 +1,6 @@
 //! The top call on whole command lines.
 
-use crate::{Part, Status, status_number, workstation, write_status};
+use crate::{ImageRule, Part, Status, status_number, workstation, write_status};
 use r4_ports::{MemShelf, MemSink, SureShelf, SureSink};
 use r4_words::read_hex;
 use std::alloc::{AllocError, Global};
@@ -101,6 +101,10 @@ fn run_words(alloc: Global, words: &[u32], steps: &str) -> Result<Status, AllocE
     let image = image_of(alloc, words)?;
     let (status, _) = run_image(alloc, &image, steps)?;
     Ok(status)
+}
+
+fn bad_image(rule: ImageRule, offset: u32) -> Status {
+    Status::BadImage { rule, offset }
 }
 
 fn unbuilt(tick: u32, part: Part) -> Status {
@@ -303,43 +307,102 @@ fn a_file_that_is_not_read_is_a_read_fault(rt: HostRuntime) -> Result<(), Fail> 
     Ok(())
 }
 
+// The line of the answer to a run of an image.
+fn answer_of(alloc: Global, image: &[u8], steps: &str) -> Result<SureSink, Fail> {
+    let (status, _) = run_image(alloc, image, steps)?;
+    let mut out = SureSink::new(alloc, 64)?;
+    write_status(&status, &mut out)?;
+    Ok(out)
+}
+
+// A range of lengths of the cut image, and the answer; `N` stands for the length.
+const CUTS: &str = "\
+    0 51 BadImage Short N\n\
+    52 83 BadImage Table 28\n\
+    84 103 BadImage Range 52\n\
+    104 104 Done\n";
+
 #[test]
-fn an_image_of_another_form_is_not_built(rt: HostRuntime) -> Result<(), Fail> {
+fn a_cut_image_breaks_a_rule(rt: HostRuntime) -> Result<(), Fail> {
     let alloc = rt.alloc();
     let image = image_of(alloc, &FIRST)?;
-    assert_eq!(rt; image.len(), 104);
-    for length in 0..104usize {
-        let cut = image.get(..length).ok_or("short")?;
-        let (status, out) = run_image(alloc, cut, "100")?;
-        assert_eq!(rt; status, unbuilt(0, Part::Image), "{length}");
-        assert!(rt; out.bytes().is_empty());
+    for line in CUTS.lines() {
+        let mut parts = line.splitn(3, ' ');
+        let first = parts.next().ok_or("first")?.parse::<usize>()?;
+        let last = parts.next().ok_or("last")?.parse::<usize>()?;
+        let answer = parts.next().ok_or("answer")?;
+        for length in first..last.saturating_add(1) {
+            let cut = image.get(..length).ok_or("short")?;
+            let out = answer_of(alloc, cut, "100")?;
+            let want = answer.replace(alloc, "N", format!(in alloc; "{length}")?.as_str())?;
+            assert_eq!(rt; out.bytes().trim_ascii(), want.as_bytes(), "{length}");
+        }
     }
-    // One byte more than the header says.
-    let mut long = Vec::from_slice(alloc, &image)?;
-    long.push(0)?;
-    let (status, _) = run_image(alloc, &long, "100")?;
-    assert_eq!(rt; status, unbuilt(0, Part::Image));
     Ok(())
 }
 
-// Of the bytes of the headers only the high three of the entry may be others: the first sends the processor to an
-// address without RAM, the other two into words that are zero.
+// A range of bytes of the headers, and the answer where one of them is greater by one. What is not read does not count:
+// the version, the flags, sections, the physical address. A header of another type is skipped. An entry or a segment
+// elsewhere in RAM meets words that are zero.
+const HEADER_BYTES: &str = "\
+    0 3 BadImage Magic 0\n\
+    4 4 BadImage Class 4\n\
+    5 5 BadImage Class 5\n\
+    6 15 Done\n\
+    16 17 BadImage Kind 16\n\
+    18 19 BadImage Machine 18\n\
+    20 23 Done\n\
+    24 24 Unbuilt 6 Access\n\
+    25 26 Done\n\
+    27 27 BadImage Entry 24\n\
+    28 30 BadImage Table 28\n\
+    31 41 Done\n\
+    42 43 BadImage Table 42\n\
+    44 45 BadImage Table 28\n\
+    46 55 Done\n\
+    56 60 BadImage Range 52\n\
+    61 62 Done\n\
+    63 63 Unbuilt 6 Word\n\
+    64 67 Done\n\
+    68 72 BadImage Range 52\n\
+    73 83 Done\n";
+
 #[test]
-fn an_image_with_another_header_byte_is_not_built(rt: HostRuntime) -> Result<(), Fail> {
+fn each_byte_of_the_headers_counts_as_the_rules_say(rt: HostRuntime) -> Result<(), Fail> {
     let alloc = rt.alloc();
-    for at in 0..84usize {
-        let mut image = image_of(alloc, &FIRST)?;
-        if let Some(byte) = image.get_mut(at) {
-            *byte = byte.wrapping_add(1);
+    for line in HEADER_BYTES.lines() {
+        let mut parts = line.splitn(3, ' ');
+        let first = parts.next().ok_or("first")?.parse::<usize>()?;
+        let last = parts.next().ok_or("last")?.parse::<usize>()?;
+        let answer = parts.next().ok_or("answer")?;
+        for at in first..last.saturating_add(1) {
+            let mut image = image_of(alloc, &FIRST)?;
+            if let Some(byte) = image.get_mut(at) {
+                *byte = byte.wrapping_add(1);
+            }
+            let out = answer_of(alloc, &image, "100")?;
+            assert_eq!(rt; out.bytes().trim_ascii(), answer.as_bytes(), "{at}");
         }
-        let (status, _) = run_image(alloc, &image, "100")?;
-        let want = match at {
-            24 => unbuilt(6, Part::Access),
-            25 | 26 => Status::Done,
-            _ => unbuilt(0, Part::Image),
-        };
-        assert_eq!(rt; status, want, "{at}");
     }
+    Ok(())
+}
+
+// The first image with zeros behind it, up to this length.
+fn padded(alloc: Global, length: usize) -> Result<Vec<u8>, AllocError> {
+    let mut image = image_of(alloc, &FIRST)?;
+    image.resize(length, 0)?;
+    Ok(image)
+}
+
+#[test]
+fn an_image_has_at_most_its_limit(rt: HostRuntime) -> Result<(), Fail> {
+    let alloc = rt.alloc();
+    let (status, out) = run_image(alloc, &padded(alloc, 16777216)?, "100")?;
+    assert_eq!(rt; status, Status::Done);
+    assert_eq!(rt; out.bytes(), FIRST_REPORT);
+    let (status, out) = run_image(alloc, &padded(alloc, 16777217)?, "100")?;
+    assert_eq!(rt; status, Status::TooLong);
+    assert!(rt; out.bytes().is_empty());
     Ok(())
 }
 
@@ -361,9 +424,8 @@ fn assert_answers(rt: &impl Abort, alloc: Global, table: &str) -> Result<(), Fai
         }
         let steps = parts.next().ok_or("steps")?;
         let want = parts.next().ok_or("answer")?;
-        let status = run_words(alloc, &words, steps)?;
-        let mut out = SureSink::new(alloc, 64)?;
-        write_status(&status, &mut out)?;
+        let image = image_of(alloc, &words)?;
+        let out = answer_of(alloc, &image, steps)?;
         assert_eq!(rt; out.bytes().trim_ascii(), want.as_bytes(), "{line}");
     }
     Ok(())
@@ -525,8 +587,10 @@ fn each_status_has_its_number_and_its_line(rt: HostRuntime) -> Result<(), Fail> 
         (Status::Usage, 2),
         (Status::ReadFault, 3),
         (Status::WriteFault, 4),
+        (bad_image(ImageRule::Table, 28), 5),
+        (bad_image(ImageRule::Short, 0), 5),
         (Status::Memory, 8),
-        (unbuilt(0, Part::Image), 11),
+        (Status::TooLong, 10),
         (unbuilt(4294967294, Part::Word), 11),
         (unbuilt(7, Part::Access), 11),
     ] {
