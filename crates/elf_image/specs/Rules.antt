@@ -13,6 +13,7 @@ use Rattle.elf_image.specs.declared.rules.ImageRule.TheVariants.{Short, Magic, C
 use Rattle.elf_image.specs.declared.segments.Segment.{Segment}
 use Rattle.elf_image.specs.Header.{kind_of, machine_of, entry_of, table_of, header_size_of, count_of, segment_at, headers_of}
 
+-- a rule that is broken at an offset
 abbrev pub broken : ImageRule → ℕ → ImageFault
 broken rule offset = record { rule = rule; offset = offset }
 
