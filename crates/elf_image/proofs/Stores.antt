@@ -55,4 +55,4 @@ stored_not bytes ram segment is =
 
 -- the bytes of a segment in range lie in the file
 pub file_in_range : (size : ℕ) (segment : Segment) → is_in_range size segment ≡ true → segment.offset + segment.file_size ≤ size
-file_in_range size segment is = leb-true _ _ (and_parts (nat_le segment.file_size segment.memory_size) (nat_le (segment.offset + segment.file_size) size) (and_parts _ _ (and_parts _ _ is).0).0).1
+file_in_range size segment is = leb-true _ _ (and_parts (nat_le segment.file_size segment.memory_size) (nat_le (segment.offset + segment.file_size) size) (and_parts _ _ is).0).1

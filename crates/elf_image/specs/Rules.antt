@@ -13,6 +13,7 @@ use Rattle.elf_image.specs.declared.rules.ImageRule.TheVariants.{Short, Magic, C
 use Rattle.elf_image.specs.declared.segments.Segment.{Segment}
 use Rattle.elf_image.specs.Header.{kind_of, machine_of, entry_of, table_of, header_size_of, count_of, segment_at, headers_of}
 
+-- a rule that is broken at an offset
 abbrev pub broken : ImageRule → ℕ → ImageFault
 broken rule offset = record { rule = rule; offset = offset }
 
@@ -72,14 +73,17 @@ is_empty segment = (segment.file_size == 0) && (segment.memory_size == 0)
 abbrev pub is_stored : Segment → Bool
 is_stored segment = is_load segment && not (is_empty segment)
 
+-- so many bytes from an address on lie in kseg0 or kseg1 and in RAM
+abbrev pub has_place : ℕ → ℕ → Bool
+has_place va count = is_unmapped va && nat_le (physical va + count) ram_size
+
 -- the segment has at least the memory that the file fills, its bytes lie in the file, and its memory lies in kseg0 or
 -- kseg1 and in RAM
 abbrev pub is_in_range : ℕ → Segment → Bool
 is_in_range size segment =
     nat_le segment.file_size segment.memory_size
     && nat_le (segment.offset + segment.file_size) size
-    && is_unmapped segment.address
-    && nat_le (physical segment.address + segment.memory_size) ram_size
+    && has_place segment.address segment.memory_size
 
 -- a header of a segment that is stored and not in range
 unfoldable pub breaks_range : List ℕ → ℕ → Bool
@@ -89,9 +93,13 @@ breaks_range bytes at = is_stored (segment_at bytes at) && not (is_in_range (len
 unfoldable pub range_fault : List ℕ → Option ImageFault
 range_fault bytes = option_map (broken Range) (find (breaks_range bytes) (headers_of bytes))
 
--- Entry: the image is entered at an instruction's address in kseg0 or kseg1
+-- an instruction's address in kseg0 or kseg1
+abbrev pub can_enter : ℕ → Bool
+can_enter entry = is_unmapped entry && (entry % 4 == 0)
+
+-- Entry: the image is entered at such an address
 unfoldable pub entry_fault : List ℕ → Option ImageFault
-entry_fault bytes = unless (is_unmapped (entry_of bytes) && (entry_of bytes % 4 == 0)) (broken Entry 24)
+entry_fault bytes = unless (can_enter (entry_of bytes)) (broken Entry 24)
 
 -- the first fault of a list of rules
 abbrev pub first_fault : List (Option ImageFault) → Option ImageFault

@@ -110,16 +110,20 @@ fn is_unmapped(va: u32) -> bool
     va >= 0x80000000 && va < 0xc0000000
 }
 
+fn has_place(va: u32, count: u32) -> bool
+    ensures { result ≡ law.has_place va count }
+{
+    let unmapped = is_unmapped(va);
+    let end = u64::from(va % 0x20000000) + u64::from(count);
+    unmapped && end <= RAM_SIZE
+}
+
 fn is_in_range(size: usize, segment: &Segment) -> bool
     ensures { result ≡ law.is_in_range size segment.now }
 {
     let file_end = u64::from(segment.offset) + u64::from(segment.file_size);
-    let unmapped = is_unmapped(segment.address);
-    let memory_end = u64::from(segment.address % 0x20000000) + u64::from(segment.memory_size);
-    segment.file_size <= segment.memory_size
-        && file_end <= size as u64
-        && unmapped
-        && memory_end <= RAM_SIZE
+    let placed = has_place(segment.address, segment.memory_size);
+    segment.file_size <= segment.memory_size && file_end <= size as u64 && placed
 }
 
 /// Whether a segment's bytes are stored.

@@ -1,7 +1,9 @@
 // The image that the assembler writes.
-ghost use Rattle.std.specs.Prelude.{◌≡◌, ◌+◌, ◌≤◌, ◌++◌, length, IfOk};
+ghost use Rattle.std.specs.Prelude.{◌≡◌, ◌+◌, ◌≤◌, ◌++◌, length, List, ℕ, IfOk, true, None};
 ghost use Rattle.arrayvec.specs.ArrayVec.{array_vec_len};
-ghost use Rattle.flat_ram.specs.Bytes.{bytes_of, bytes_of_half};
+ghost use Rattle.flat_ram.specs.Bytes.{bytes_of, bytes_of_half, put_bytes};
+ghost use Rattle.elf_image.specs.Rules.{image_fault, has_place, can_enter, physical};
+ghost use Rattle.elf_image.specs.Loading.{loaded};
 ghost use Rattle.elf_image.specs.Written as law;
 
 use arrayvec::ArrayVec;
@@ -78,6 +80,19 @@ fn put_program_header(base: u32, count: u32, headers: &mut Headers)
 }
 
 #[tactic(auto, unfolding(crate::specs::Written::image_of))]
+fn image_bytes(alloc: Global, base: u32, entry: u32, body: &[u8]) -> Result<Vec<u8>, AllocError>
+    requires { length body.now ≤ 8388608 }
+    ensures { IfOk result (λ image. image.items ≡ law.image_of base entry body.now) }
+{
+    let mut headers = Headers::new();
+    put_elf_header(entry, &mut headers);
+    put_program_header(base, body.len() as u32, &mut headers);
+    let mut image = Vec::with_capacity(alloc, 84 + body.len())?;
+    image.extend_from_slice(headers.as_slice())?;
+    image.extend_from_slice(body)?;
+    Ok(image)
+}
+
 /// The image of some bytes at a base, with an entry.
 pub fn write_image(
     alloc: Global,
@@ -86,13 +101,12 @@ pub fn write_image(
     bytes: &[u8],
 ) -> Result<Vec<u8>, AllocError>
     requires { length bytes.now ≤ 8388608 }
-    ensures { IfOk result (λ image. image.items ≡ law.image_of built_base entry bytes.now) }
+    ensures image { IfOk result (λ image. image.items ≡ law.image_of built_base entry bytes.now) }
+
+    // It is read where its bytes have a place in RAM and it can be entered, and it gives the RAM these bytes.
+    ensures accepted { has_place built_base (length bytes.now) ≡ true → can_enter entry ≡ true → IfOk result (λ image. image_fault image.items ≡ None) }
+    ensures loads { IfOk result (λ image. (ram : List ℕ) → loaded image.items ram ≡ put_bytes ram (physical built_base) bytes.now) }
 {
-    let mut headers = Headers::new();
-    put_elf_header(entry, &mut headers);
-    put_program_header(built_base, bytes.len() as u32, &mut headers);
-    let mut image = Vec::with_capacity(alloc, 84 + bytes.len())?;
-    image.extend_from_slice(headers.as_slice())?;
-    image.extend_from_slice(bytes)?;
+    let image = image_bytes(alloc, built_base, entry, bytes)?;
     Ok(image)
 }
