@@ -1,3 +1,4 @@
 pub mod Apart
 pub mod ByClass
 pub mod InRange
+pub mod Names

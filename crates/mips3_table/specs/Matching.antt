@@ -48,3 +48,12 @@ match_in Cop0Function word = match_from word 124 cop0_function_rows
 -- at most one row matches a word
 abbrev pub AtMostOneRow : Type 0
 AtMostOneRow = (word one other : ℕ) → IsRowOf word one → IsRowOf word other → one ≡ other
+
+-- the row of this number is in the table, and has this name
+pub record IsNamed (name : List ℕ) (number : ℕ) : Type 0 where
+  pub is_row : number < 129
+  pub has_name : (row_at number).name ≡ name
+
+-- no two rows have the same name
+abbrev pub NamesDiffer : Type 0
+NamesDiffer = (one other : ℕ) → one < 129 → other < 129 → (row_at one).name ≡ (row_at other).name → one ≡ other

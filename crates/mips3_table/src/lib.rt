@@ -17,4 +17,4 @@ mod table;
 pub use classes::{Class, class_of};
 pub use instruction::Inst;
 pub use operand_forms::Form;
-pub use table::{at_most_one_row, form_of, is_64_bit, name_of, row_of};
+pub use table::{at_most_one_row, form_of, is_64_bit, name_of, names_differ, row_named, row_of};

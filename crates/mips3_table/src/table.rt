@@ -7,7 +7,7 @@
 
 ghost use Rattle.std.specs.Prelude.{◌≡◌, ◌<◌, ◌≤◌, ◌↔◌, ℕ, IsNone, IfSome, length};
 ghost use Rattle.mips3_table.specs.Rows.{rows, row_at};
-ghost use Rattle.mips3_table.specs.Matching.{AtMostOneRow, IsRowOf, match_in, row_of as row_of_word};
+ghost use Rattle.mips3_table.specs.Matching.{AtMostOneRow, IsNamed, IsRowOf, NamesDiffer, match_in, row_of as row_of_word};
 
 use crate::classes::{Class, class_of};
 use crate::operand_forms::Form;
@@ -234,6 +234,12 @@ pub fn at_most_one_row()
     ensures count { length rows ≡ 129 }
 {}
 
+/// No two rows of the table have the same name.
+#[tactic(auto, using(crate::proofs::Names::same_name))]
+pub fn names_differ()
+    ensures { NamesDiffer }
+{}
+
 /// The number of the row that the word matches. A word that matches none is reserved.
 pub fn row_of(word: u32) -> Option<u8>
     ensures value { result ≡ row_of_word word }
@@ -348,6 +354,19 @@ fn cop0_function_name(row: u8) -> &'static str
     ensures { result.now ≡ (row_at row).name }
 {
     cop0_function_rows!(name_of_row, row)
+}
+
+/// The number of the row that has this name.
+pub fn row_named(name: &str) -> Option<u8>
+    ensures row { (number : ℕ) → (result ≡ Some number) ↔ IsNamed name.now number }
+    ensures in_table { IfSome result (λ number. number < 129) }
+{
+    for row in 0..129 {
+        if name_of(row) == name {
+            return Some(row);
+        }
+    }
+    None
 }
 
 /// The form of a row's operands.

@@ -140,6 +140,7 @@ fn each_row_has_its_number_and_its_name(rt: HostRuntime) {
             Some(row) => {
                 assert_eq!(rt; row as usize, place, "the row of {word:08x}");
                 assert_eq!(rt; name_of(row), *name, "the name of row {row}");
+                assert_eq!(rt; row_named(name), Some(row), "the row named {name}");
                 assert_eq!(rt; is_64_bit(row), *is_64_bit_row, "the width of row {row}");
             }
             None => assert!(rt; false, "{word:08x} is reserved"),
@@ -167,5 +168,18 @@ const RESERVED: [u32; 32] = [
 fn words_beside_the_rows_are_reserved(rt: HostRuntime) {
     for word in RESERVED {
         assert!(rt; row_of(word).is_none(), "{word:08x} has a row");
+    }
+}
+
+#[test]
+fn a_word_has_a_class_and_its_row_a_form(rt: HostRuntime) {
+    assert_eq!(rt; class_of(0x8c000000), Class::Opcode);
+    assert_eq!(rt; class_of(0x0000000f), Class::Special);
+    assert_eq!(rt; class_of(0x040c0000), Class::Regimm);
+    assert_eq!(rt; class_of(0x40800000), Class::Cop0Move);
+    assert_eq!(rt; class_of(0x42000018), Class::Cop0Function);
+    assert!(rt; row_named("nop").is_none());
+    if let Some(row) = row_named("cache") {
+        assert_eq!(rt; form_of(row), Form::CacheOperation);
     }
 }
