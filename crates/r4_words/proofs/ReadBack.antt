@@ -3,7 +3,7 @@ use Rattle.std.proofs.Common.{◌≡◌, ◌≢◌, ◌==◌, ◌<◌, ◌≤◌
 use Rattle.std.specs.List.{list_all}
 use Rattle.std.specs.Int.Digits.{digits_of, number_from_digits_after, AllBelowBase}
 use Rattle.std.proofs.lemmas.Int.Digits.{number_digits_of, all_below_base_digits_of, first_digits_of}
-use Rattle.std.proofs.lemmas.Bool.{eqb-true, le-leb, lt-ltb, and_parts}
+use Rattle.std.proofs.lemmas.Bool.{eqb-true, le-leb, lt-ltb}
 use Rattle.std.proofs.lemmas.List.Folds.{list_all-append}
 use Rattle.std.proofs.Math.Nat.{pow-suc, pow-le-pow_right}
 use Rattle.std.proofs.lemmas.Grind.{common_steps}
@@ -11,6 +11,11 @@ use Rattle.r4_words.specs.Texts.{digit_of, hex_of, dec_of, is_digit, is_hex_digi
 use Rattle.r4_words.proofs.Written.{dec_of_small, dec_of_more, length_dec_of_below}
 
 -- Digits
+
+both : (a b : Bool) → (a && b) ≡ true → (a ≡ true) × (b ≡ true)
+both true true e = (refl, refl)
+both true false e = absurd (cc)
+both false b e = absurd (cc)
 
 pub digit_of_value : (code : ℕ) → is_hex_digit code ≡ true → digit_of (value_of_digit code) ≡ code
 digit_of_value code is = grind (arith, common_steps)
@@ -87,7 +92,7 @@ one_more k n code is =
 hex_forth : (k n : ℕ) (text : List ℕ) → list_all is_hex_digit text ≡ true → hex_of (k + length text) (number_after 16 n text) ≡ hex_of k n ++ text
 hex_forth k n [] is = ap (λ d. hex_of d n) (add-zero k) ∙ sym (append-nil (hex_of k n))
 hex_forth k n (code ∷ text) is =
-    let parts = and_parts (is_hex_digit code) (list_all is_hex_digit text) is in
+    let parts = both (is_hex_digit code) (list_all is_hex_digit text) is in
     let digits : k + suc (length text) ≡ suc k + length text = omega arith in
     ap (λ d. hex_of d (number_after 16 (n * 16 + value_of_digit code) text)) digits
     ∙ hex_forth (suc k) (n * 16 + value_of_digit code) text parts.1
@@ -102,7 +107,7 @@ hex_of_number text is = ap (λ d. hex_of d (number_after 16 0 text)) (sym (zero-
 hex_after_lt : (n : ℕ) (text : List ℕ) → list_all is_hex_digit text ≡ true → number_after 16 n text < (n + 1) * 16 ^ length text
 hex_after_lt n [] is = omega arith
 hex_after_lt n (code ∷ text) is =
-    let parts = and_parts (is_hex_digit code) (list_all is_hex_digit text) is in
+    let parts = both (is_hex_digit code) (list_all is_hex_digit text) is in
     let small : value_of_digit code < 16 = value_of_digit_lt code parts.0 in
     let below : number_after 16 (n * 16 + value_of_digit code) text < (n * 16 + value_of_digit code + 1) * 16 ^ length text = hex_after_lt (n * 16 + value_of_digit code) text parts.1 in
     let more : n * 16 + value_of_digit code + 1 ≤ (n + 1) * 16 = omega arith in
@@ -138,7 +143,7 @@ one_more_decimal n code some is =
 dec_forth : (n : ℕ) (text : List ℕ) → 0 < n → list_all is_digit text ≡ true → dec_of (number_after 10 n text) ≡ dec_of n ++ text
 dec_forth n [] some is = sym (append-nil (dec_of n))
 dec_forth n (code ∷ text) some is =
-    let parts = and_parts (is_digit code) (list_all is_digit text) is in
+    let parts = both (is_digit code) (list_all is_digit text) is in
     dec_forth (n * 10 + value_of_digit code) text (omega arith) parts.1
     ∙ ap (λ front. front ++ text) (one_more_decimal n code some parts.0)
     ∙ append_assoc (dec_of n) (code ∷ []) text
@@ -157,13 +162,13 @@ above_zero code is more = grind (arith, common_steps)
 -- the digits of the number of a text without a leading zero
 dec_of_long : (code : ℕ) (text : List ℕ) → list_all is_digit (code ∷ text) ≡ true → not (code == 48) ≡ true → dec_of (number_of 10 (code ∷ text)) ≡ code ∷ text
 dec_of_long code text is more =
-    let parts = and_parts (is_digit code) (list_all is_digit text) is in
+    let parts = both (is_digit code) (list_all is_digit text) is in
     dec_forth (0 * 10 + value_of_digit code) text (above_zero code parts.0 more) parts.1
     ∙ ap (λ front. front ++ text) (first_decimal code parts.0)
 
 dec_of_first : (text : List ℕ) → (length text == 1) ≡ true → list_all is_digit text ≡ true → dec_of (number_of 10 text) ≡ text
 dec_of_first [] one is = absurd (cc)
-dec_of_first (code ∷ []) one is = first_decimal code (and_parts (is_digit code) true is).0
+dec_of_first (code ∷ []) one is = first_decimal code (both (is_digit code) true is).0
 dec_of_first (code ∷ next ∷ text) one is = absurd (omega (arith, eqb-true _ _ one))
 
 either : (a b : Bool) → (a || b) ≡ true → (a ≡ true) ⊎ (b ≡ true)
@@ -187,10 +192,10 @@ parts_of text is =
     let digits = list_all is_digit text in
     let first = (length text == 1) || not (get_or text 0 0 == 48) in
     let below = nat_lt (number_of 10 text) (2 ^ 32) in
-    let five = and_parts (some && short && digits && first) below is in
-    let four = and_parts (some && short && digits) first five.0 in
-    let three = and_parts (some && short) digits four.0 in
-    record { some = (and_parts some short three.0).0; digits = three.1; first = four.1; below = five.1 }
+    let five = both (some && short && digits && first) below is in
+    let four = both (some && short && digits) first five.0 in
+    let three = both (some && short) digits four.0 in
+    record { some = (both some short three.0).0; digits = three.1; first = four.1; below = five.1 }
 
 -- a decimal text is the text of its number
 pub dec_of_number : (text : List ℕ) → is_dec text ≡ true → dec_of (number_of 10 text) ≡ text
@@ -263,7 +268,7 @@ read_dec_is text n lt same = ap read_dec same ∙ read_dec_of n lt
 
 hex_cases : (text : List ℕ) (digits : ℕ) (b : Bool) → is_hex text digits ≡ b → IfSome (if b then Some (number_of 16 text) else None) (λ n. (text ≡ hex_of digits n) × (n < 16 ^ digits))
 hex_cases text digits true is =
-    let parts = and_parts (length text == digits) (list_all is_hex_digit text) is in
+    let parts = both (length text == digits) (list_all is_hex_digit text) is in
     let long : length text ≡ digits = eqb-true _ _ parts.0 in
     (subst (λ d. text ≡ hex_of d (number_of 16 text)) long (sym (hex_of_number text parts.1)), subst (λ d. number_of 16 text < 16 ^ d) long (number_of_hex_lt text parts.1))
 hex_cases text digits false is = tt
