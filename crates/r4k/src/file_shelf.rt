@@ -101,3 +101,33 @@ impl<R: Files> Shelf for FileShelf<'_, R> {
         Err(PutFault::Failed)
     }
 }
+
+#[cfg(test)]
+mod tests {
+    use super::*;
+    use std::test::Fail;
+    use std::{env, process};
+
+    #[test]
+    fn a_file_is_put_and_fetched(rt: HostRuntime) -> Result<(), Fail> {
+        let alloc = rt.alloc();
+        let id = process::id(rt.process());
+        let name = format!(in alloc; "r4k-shelf-{id}")?;
+        let path = env::temp_dir(&rt)?.join(alloc, name.as_str())?;
+        let mut shelf = FileShelf::new(&rt);
+        shelf.put(path.as_str(), b"three")?;
+        let whole: &[u8] = b"three";
+        let cut: &[u8] = b"thr";
+        assert_eq!(rt; shelf.fetch(alloc, path.as_str(), 16)?.as_slice(), whole);
+        assert_eq!(rt; shelf.fetch(alloc, path.as_str(), 3)?.as_slice(), cut);
+        assert_eq!(rt; shelf.fetch_faults, 0);
+        fs::remove_file(&rt, &path)?;
+        // A missing file, and a folder that is none.
+        assert!(rt; shelf.fetch(alloc, path.as_str(), 16).is_err());
+        assert_eq!(rt; shelf.fetch_faults, 1);
+        assert!(rt; shelf.put("/nowhere/a", b"three").is_err());
+        assert_eq!(rt; shelf.put_faults, 1);
+        assert_eq!(rt; shelf.fetch_faults, 1);
+        Ok(())
+    }
+}

@@ -33,3 +33,33 @@ impl<W: Write + Drop> Sink for StdSink<W> {
         Err(SinkFault::Failed)
     }
 }
+
+#[cfg(test)]
+mod tests {
+    use super::*;
+    use crate::file_shelf::FileShelf;
+    use r4_ports::Shelf;
+    use std::test::Fail;
+    use std::{env, fs, process};
+
+    #[test]
+    fn pieces_reach_a_file(rt: HostRuntime) -> Result<(), Fail> {
+        let alloc = rt.alloc();
+        let id = process::id(rt.process());
+        let name = format!(in alloc; "r4k-sink-{id}")?;
+        let path = env::temp_dir(&rt)?.join(alloc, name.as_str())?;
+        let mut sink = StdSink::new(fs::create(&rt, &path)?);
+        sink.write(b"one ")?;
+        sink.write(b"two")?;
+        assert_eq!(rt; sink.faults, 0);
+        let text: &[u8] = b"one two";
+        let mut shelf = FileShelf::new(&rt);
+        assert_eq!(rt; shelf.fetch(alloc, path.as_str(), 16)?.as_slice(), text);
+        fs::remove_file(&rt, &path)?;
+        // A device that takes nothing.
+        let mut full = StdSink::new(fs::create(&rt, "/dev/full")?);
+        assert!(rt; full.write(b"one").is_err());
+        assert_eq!(rt; full.faults, 1);
+        Ok(())
+    }
+}

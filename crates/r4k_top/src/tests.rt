@@ -18,7 +18,8 @@ const HEADERS: [u8; 84] = [
 ];
 
 // The end of the run of the first image.
-const FIRST_REPORT: &[u8] = b"ticks 10 halt 00000041\n\
+fn first_report() -> &'static [u8] {
+    b"ticks 10 halt 00000041\n\
 pc a0010010 npc a0010014 slot 0 link 0\n\
 hi 0000000000000000 lo 0000000000000000\n\
 r00 0000000000000000 0000000000000000 0000000000000000 0000000000000000\n\
@@ -36,10 +37,12 @@ c13 00000000 00000000 00000400 00028243\n\
 c17 00000000 00000000 00000000 00000000\n\
 disk 00000000 00000000 0\n\
 out 1\n\
-: 41\n";
+: 41\n"
+}
 
 // The state at reset.
-const RESET_REPORT: &[u8] = b"ticks 0 bound\n\
+fn reset_report() -> &'static [u8] {
+    b"ticks 0 bound\n\
 pc bfc00000 npc bfc00004 slot 0 link 0\n\
 hi 0000000000000000 lo 0000000000000000\n\
 r00 0000000000000000 0000000000000000 0000000000000000 0000000000000000\n\
@@ -56,7 +59,8 @@ c9 00000000 00000000 00000000 00400004\n\
 c13 00000000 00000000 00000400 00028243\n\
 c17 00000000 00000000 00000000 00000000\n\
 disk 00000000 00000000 0\n\
-out 0\n";
+out 0\n"
+}
 
 // An image of these words.
 fn image_of(alloc: Global, words: &[u32]) -> Result<Vec<u8>, AllocError> {
@@ -96,11 +100,37 @@ fn run_image(alloc: Global, image: &[u8], steps: &str) -> Result<(Status, SureSi
     Ok((status, out))
 }
 
-// The answer to a run of these words, at the entry of an image.
-fn run_words(alloc: Global, words: &[u32], steps: &str) -> Result<Status, AllocError> {
-    let image = image_of(alloc, words)?;
-    let (status, _) = run_image(alloc, &image, steps)?;
-    Ok(status)
+// The line of the answer to a run of an image, without its end.
+fn answer_of(alloc: Global, image: &[u8], steps: &str) -> Result<Vec<u8>, Fail> {
+    let (status, _) = run_image(alloc, image, steps)?;
+    let mut out = SureSink::new(alloc, 64)?;
+    write_status(&status, &mut out)?;
+    Ok(Vec::from_slice(alloc, out.bytes().trim_ascii())?)
+}
+
+// The number of a hexadecimal word.
+fn word_of(text: &str) -> u32 {
+    (read_hex(text.as_bytes(), 8).unwrap_or(0) % 0x100000000) as u32
+}
+
+// The image of a text of words.
+fn image_of_text(alloc: Global, text: &str) -> Result<Vec<u8>, AllocError> {
+    let mut words = Vec::new(alloc);
+    for word in text.split(' ') {
+        words.push(word_of(word))?;
+    }
+    image_of(alloc, &words)
+}
+
+// Asserts the answers of a table: each line has an image's words, the bound, and the answer, with bars between.
+fn assert_answers(rt: &impl Abort, alloc: Global, table: &str) -> Result<(), Fail> {
+    for line in table.lines() {
+        let (words, rest) = line.split_once('|').ok_or("words")?;
+        let (steps, want) = rest.split_once('|').ok_or("steps")?;
+        let answer = answer_of(alloc, &image_of_text(alloc, words)?, steps)?;
+        assert_eq!(rt; answer.as_slice(), want.as_bytes(), "{line}");
+    }
+    Ok(())
 }
 
 fn bad_image(rule: ImageRule, offset: u32) -> Status {
@@ -115,19 +145,21 @@ fn unbuilt(tick: u32, part: Part) -> Status {
 fn the_first_image_prints_a_letter_and_halts(rt: HostRuntime) -> Result<(), Fail> {
     let alloc = rt.alloc();
     let image = image_of(alloc, &FIRST)?;
-    let (status, out) = run_image(alloc, &image, "100")?;
-    assert_eq!(rt; status, Status::Done);
-    assert_eq!(rt; out.bytes(), FIRST_REPORT);
-    // The bound is above the tenth tick, at it, and below it.
-    let (status, out) = run_image(alloc, &image, "10")?;
-    assert_eq!(rt; status, Status::Done);
-    assert_eq!(rt; out.bytes(), FIRST_REPORT);
-    let (status, out) = run_image(alloc, &image, "9")?;
-    assert_eq!(rt; status, Status::Done);
-    assert!(rt;
-        out.bytes()
-            .starts_with(b"ticks 9 bound\npc a001000c npc a0010010 slot 0 link 0\n")
-    );
+    // The bound is above the tenth tick, or at it; and the greatest that there is.
+    for steps in ["100", "10", "4294967295"] {
+        let (status, out) = run_image(alloc, &image, steps)?;
+        assert_eq!(rt; status, Status::Done);
+        assert_eq!(rt; out.bytes(), first_report());
+    }
+    Ok(())
+}
+
+#[test]
+fn a_run_ends_at_its_bound(rt: HostRuntime) -> Result<(), Fail> {
+    let image = image_of(rt.alloc(), &FIRST)?;
+    let (_, out) = run_image(rt.alloc(), &image, "9")?;
+    let begins = b"ticks 9 bound\npc a001000c npc a0010010 slot 0 link 0\n";
+    assert!(rt; out.bytes().starts_with(begins));
     assert!(rt; out.bytes().ends_with(b"out 1\n: 41\n"));
     Ok(())
 }
@@ -135,27 +167,29 @@ fn the_first_image_prints_a_letter_and_halts(rt: HostRuntime) -> Result<(), Fail
 #[test]
 fn no_step_shows_the_state_at_reset(rt: HostRuntime) -> Result<(), Fail> {
     let image = image_of(rt.alloc(), &FIRST)?;
-    let (status, out) = run_image(rt.alloc(), &image, "0")?;
-    assert_eq!(rt; status, Status::Done);
-    assert_eq!(rt; out.bytes(), RESET_REPORT);
+    let (_, out) = run_image(rt.alloc(), &image, "0")?;
+    assert_eq!(rt; out.bytes(), reset_report());
     Ok(())
 }
 
 #[test]
 fn random_begins_again_at_47(rt: HostRuntime) -> Result<(), Fail> {
-    let alloc = rt.alloc();
-    let image = image_of(alloc, &[0])?;
-    for (steps, random) in [("47", "00000000"), ("48", "0000002f"), ("49", "0000002e")] {
-        let (_, out) = run_image(alloc, &image, steps)?;
+    let image = image_of(rt.alloc(), &[0])?;
+    for (steps, line) in [
+        ("47", "\nc0 00000000 00000000 00000000"),
+        ("48", "\nc0 00000000 0000002f 00000000"),
+        ("49", "\nc0 00000000 0000002e 00000000"),
+    ] {
+        let (_, out) = run_image(rt.alloc(), &image, steps)?;
         let text = std::str::from_utf8(out.bytes())?;
-        let line = format!(in alloc; "\nc0 00000000 {random} 00000000")?;
-        assert!(rt; text.contains(line.as_str()), "{text}");
+        assert!(rt; text.contains(line), "{text}");
     }
     Ok(())
 }
 
 // Words that are no command, a line each, with a bar between two words.
-const NO_COMMANDS: &str = "\
+fn no_commands() -> &'static str {
+    "\
     run\n\
     run|pc/16|a|-|-\n\
     run|pc/16|a|-|-|1|1\n\
@@ -190,17 +224,18 @@ const NO_COMMANDS: &str = "\
     run|pc/16|a|-|-|4294967296\n\
     run|pc/16|a|-|-|10000000000\n\
     run|pc/16|a|-|-|18446744073709551617\n\
-";
+"
+}
 
 #[test]
 fn words_that_are_no_command_are_usage(rt: HostRuntime) -> Result<(), Fail> {
     let alloc = rt.alloc();
-    for line in NO_COMMANDS.lines() {
+    for line in no_commands().lines() {
         let mut words = Vec::new(alloc);
         for word in line.split('|') {
             words.push(String::from_str(alloc, word)?)?;
         }
-        let mut shelf = SureShelf::new(files_of(alloc, &HEADERS)?);
+        let mut shelf = SureShelf::new(Vec::new(alloc));
         let mut out = SureSink::new(alloc, 16)?;
         let status = workstation(alloc, &words, &mut shelf, &mut out);
         assert_eq!(rt; status, Status::Usage, "{line}");
@@ -212,22 +247,10 @@ fn words_that_are_no_command_are_usage(rt: HostRuntime) -> Result<(), Fail> {
 #[test]
 fn no_words_are_usage(rt: HostRuntime) -> Result<(), Fail> {
     let alloc = rt.alloc();
-    let words = Vec::new(alloc);
     let mut shelf = SureShelf::new(Vec::new(alloc));
     let mut out = SureSink::new(alloc, 16)?;
-    assert_eq!(rt;
-        workstation(alloc, &words, &mut shelf, &mut out),
-        Status::Usage
-    );
-    Ok(())
-}
-
-#[test]
-fn the_greatest_bound_is_a_number(rt: HostRuntime) -> Result<(), Fail> {
-    let image = image_of(rt.alloc(), &FIRST)?;
-    let (status, out) = run_image(rt.alloc(), &image, "4294967295")?;
-    assert_eq!(rt; status, Status::Done);
-    assert_eq!(rt; out.bytes(), FIRST_REPORT);
+    let status = workstation(alloc, &Vec::new(alloc), &mut shelf, &mut out);
+    assert_eq!(rt; status, Status::Usage);
     Ok(())
 }
 
@@ -237,9 +260,9 @@ fn a_write_that_fails_leaves_a_prefix_of_the_report(rt: HostRuntime) -> Result<(
     let words = words_of(alloc, &["run", "pc/16", "a", "-", "-", "100"])?;
     let image = image_of(alloc, &FIRST)?;
     // The report is written line by line, and each write of a line fails in turn.
-    let mut before = 0;
-    let mut failed = 0;
-    for (line, text) in FIRST_REPORT
+    let mut before = 0usize;
+    let mut failed = 0u32;
+    for (line, text) in first_report()
         .split_inclusive(|byte| *byte == b'\n')
         .enumerate()
     {
@@ -250,11 +273,11 @@ fn a_write_that_fails_leaves_a_prefix_of_the_report(rt: HostRuntime) -> Result<(
         let status = workstation(alloc, &words, &mut shelf, &mut out);
         assert_eq!(rt; status, Status::WriteFault);
         // The lines before it, and the first half of it.
-        let want = before + text.len() / 2;
-        assert_eq!(rt; out.bytes(), FIRST_REPORT.get(..want).ok_or("short")?);
+        let want = before.saturating_add(text.len() / 2);
+        assert_eq!(rt; out.bytes(), first_report().get(..want).ok_or("short")?);
         assert_eq!(rt; out.fault_count(), 1);
-        before += text.len();
-        failed += 1;
+        before = text.len().saturating_add(before);
+        failed = 1u32.saturating_add(failed);
     }
     assert_eq!(rt; failed, 19);
     // A write beyond the last one does not come.
@@ -266,7 +289,7 @@ fn a_write_that_fails_leaves_a_prefix_of_the_report(rt: HostRuntime) -> Result<(
         workstation(alloc, &words, &mut shelf, &mut out),
         Status::Done
     );
-    assert_eq!(rt; out.bytes(), FIRST_REPORT);
+    assert_eq!(rt; out.bytes(), first_report());
     Ok(())
 }
 
@@ -280,7 +303,7 @@ fn a_sink_without_room_takes_what_fits(rt: HostRuntime) -> Result<(), Fail> {
         let mut out = MemSink::new(alloc, room, Vec::new(alloc))?;
         let status = workstation(alloc, &words, &mut shelf, &mut out);
         assert_eq!(rt; status, Status::WriteFault);
-        assert_eq!(rt; out.bytes(), FIRST_REPORT.get(..room).ok_or("short")?);
+        assert_eq!(rt; out.bytes(), first_report().get(..room).ok_or("short")?);
     }
     Ok(())
 }
@@ -307,81 +330,63 @@ fn a_file_that_is_not_read_is_a_read_fault(rt: HostRuntime) -> Result<(), Fail> 
     Ok(())
 }
 
-// The line of the answer to a run of an image.
-fn answer_of(alloc: Global, image: &[u8], steps: &str) -> Result<SureSink, Fail> {
-    let (status, _) = run_image(alloc, image, steps)?;
-    let mut out = SureSink::new(alloc, 64)?;
-    write_status(&status, &mut out)?;
-    Ok(out)
+// How the first image is spoiled: cut to each length of a range, or a byte of its headers made greater by one at each
+// place of a range; then the answer, where `N` stands for the length. What is not read does not count: the version, the
+// flags, sections, the physical address. A header of another type is skipped. An entry or a segment elsewhere in RAM
+// meets words that are zero.
+fn spoiled_images() -> &'static str {
+    "\
+    cut 0 51 BadImage Short N\n\
+    cut 52 83 BadImage Table 28\n\
+    cut 84 103 BadImage Range 52\n\
+    cut 104 104 Done\n\
+    bump 0 3 BadImage Magic 0\n\
+    bump 4 4 BadImage Class 4\n\
+    bump 5 5 BadImage Class 5\n\
+    bump 6 15 Done\n\
+    bump 16 17 BadImage Kind 16\n\
+    bump 18 19 BadImage Machine 18\n\
+    bump 20 23 Done\n\
+    bump 24 24 Unbuilt 6 Access\n\
+    bump 25 26 Done\n\
+    bump 27 27 BadImage Entry 24\n\
+    bump 28 30 BadImage Table 28\n\
+    bump 31 41 Done\n\
+    bump 42 43 BadImage Table 42\n\
+    bump 44 45 BadImage Table 28\n\
+    bump 46 55 Done\n\
+    bump 56 60 BadImage Range 52\n\
+    bump 61 62 Done\n\
+    bump 63 63 Unbuilt 6 Word\n\
+    bump 64 67 Done\n\
+    bump 68 72 BadImage Range 52\n\
+    bump 73 83 Done\n\
+"
 }
 
-// A range of lengths of the cut image, and the answer; `N` stands for the length.
-const CUTS: &str = "\
-    0 51 BadImage Short N\n\
-    52 83 BadImage Table 28\n\
-    84 103 BadImage Range 52\n\
-    104 104 Done\n";
-
-#[test]
-fn a_cut_image_breaks_a_rule(rt: HostRuntime) -> Result<(), Fail> {
-    let alloc = rt.alloc();
-    let image = image_of(alloc, &FIRST)?;
-    for line in CUTS.lines() {
-        let mut parts = line.splitn(3, ' ');
-        let first = parts.next().ok_or("first")?.parse::<usize>()?;
-        let last = parts.next().ok_or("last")?.parse::<usize>()?;
-        let answer = parts.next().ok_or("answer")?;
-        for length in first..last.saturating_add(1) {
-            let cut = image.get(..length).ok_or("short")?;
-            let out = answer_of(alloc, cut, "100")?;
-            let want = answer.replace(alloc, "N", format!(in alloc; "{length}")?.as_str())?;
-            assert_eq!(rt; out.bytes().trim_ascii(), want.as_bytes(), "{length}");
-        }
+// The first image, spoiled at a place.
+fn spoiled(alloc: Global, kind: &str, place: usize) -> Result<Vec<u8>, AllocError> {
+    let mut image = image_of(alloc, &FIRST)?;
+    if kind == "cut" {
+        image.truncate(place);
+    } else if let Some(byte) = image.get_mut(place) {
+        *byte = byte.wrapping_add(1);
     }
-    Ok(())
+    Ok(image)
 }
-
-// A range of bytes of the headers, and the answer where one of them is greater by one. What is not read does not count:
-// the version, the flags, sections, the physical address. A header of another type is skipped. An entry or a segment
-// elsewhere in RAM meets words that are zero.
-const HEADER_BYTES: &str = "\
-    0 3 BadImage Magic 0\n\
-    4 4 BadImage Class 4\n\
-    5 5 BadImage Class 5\n\
-    6 15 Done\n\
-    16 17 BadImage Kind 16\n\
-    18 19 BadImage Machine 18\n\
-    20 23 Done\n\
-    24 24 Unbuilt 6 Access\n\
-    25 26 Done\n\
-    27 27 BadImage Entry 24\n\
-    28 30 BadImage Table 28\n\
-    31 41 Done\n\
-    42 43 BadImage Table 42\n\
-    44 45 BadImage Table 28\n\
-    46 55 Done\n\
-    56 60 BadImage Range 52\n\
-    61 62 Done\n\
-    63 63 Unbuilt 6 Word\n\
-    64 67 Done\n\
-    68 72 BadImage Range 52\n\
-    73 83 Done\n";
 
 #[test]
 fn each_byte_of_the_headers_counts_as_the_rules_say(rt: HostRuntime) -> Result<(), Fail> {
     let alloc = rt.alloc();
-    for line in HEADER_BYTES.lines() {
-        let mut parts = line.splitn(3, ' ');
-        let first = parts.next().ok_or("first")?.parse::<usize>()?;
-        let last = parts.next().ok_or("last")?.parse::<usize>()?;
-        let answer = parts.next().ok_or("answer")?;
-        for at in first..last.saturating_add(1) {
-            let mut image = image_of(alloc, &FIRST)?;
-            if let Some(byte) = image.get_mut(at) {
-                *byte = byte.wrapping_add(1);
-            }
-            let out = answer_of(alloc, &image, "100")?;
-            assert_eq!(rt; out.bytes().trim_ascii(), answer.as_bytes(), "{at}");
+    for line in spoiled_images().lines() {
+        let (kind, rest) = line.split_once(' ').ok_or("kind")?;
+        let (first, rest) = rest.split_once(' ').ok_or("first")?;
+        let (last, answer) = rest.split_once(' ').ok_or("last")?;
+        for place in first.parse::<usize>()?..last.parse::<usize>()?.saturating_add(1) {
+            let number = format!(in alloc; "{place}")?;
+            let want = answer.replace(alloc, "N", number.as_str())?;
+            let found = answer_of(alloc, &spoiled(alloc, kind, place)?, "100")?;
+            assert_eq!(rt; found.as_slice(), want.as_bytes(), "{kind} {place}");
         }
     }
     Ok(())
@@ -399,144 +404,182 @@ fn an_image_has_at_most_its_limit(rt: HostRuntime) -> Result<(), Fail> {
     let alloc = rt.alloc();
     let (status, out) = run_image(alloc, &padded(alloc, 16777216)?, "100")?;
     assert_eq!(rt; status, Status::Done);
-    assert_eq!(rt; out.bytes(), FIRST_REPORT);
+    assert_eq!(rt; out.bytes(), first_report());
     let (status, out) = run_image(alloc, &padded(alloc, 16777217)?, "100")?;
     assert_eq!(rt; status, Status::TooLong);
     assert!(rt; out.bytes().is_empty());
     Ok(())
 }
 
-// The number of a hexadecimal word.
-fn word_of(text: &str) -> Result<u32, Fail> {
-    match read_hex(text.as_bytes(), 8) {
-        Some(word) => Ok((word % 0x100000000) as u32),
-        None => Err(Fail::from("a word")),
-    }
+// Each of the seven instructions at the entry, where k0 is the entry's address, and then with one bit of its op, its
+// function, or of the fields that tell MTC0 to Status changed: another of the seven, or not built.
+fn neighbours() -> &'static str {
+    "\
+    3c08bf00 00000000|7|Done\n\
+    3808bf00 00000000|7|Unbuilt 6 Word\n\
+    3408bf00 00000000|7|Done\n\
+    2c08bf00 00000000|7|Unbuilt 6 Word\n\
+    1c08bf00 00000000|7|Unbuilt 6 Word\n\
+    7c08bf00 00000000|7|Unbuilt 6 Word\n\
+    bc08bf00 00000000|7|Unbuilt 6 Word\n\
+    34090041 00000000|7|Done\n\
+    30090041 00000000|7|Unbuilt 6 Word\n\
+    3c090041 00000000|7|Done\n\
+    24090041 00000000|7|Unbuilt 6 Word\n\
+    14090041 00000000|7|Unbuilt 6 Word\n\
+    74090041 00000000|7|Unbuilt 6 Word\n\
+    b4090041 00000000|7|Unbuilt 6 Word\n\
+    00084880 00000000|7|Done\n\
+    04084880 00000000|7|Unbuilt 6 Word\n\
+    08084880 00000000|7|Unbuilt 6 Word\n\
+    10084880 00000000|7|Unbuilt 6 Word\n\
+    20084880 00000000|7|Unbuilt 6 Word\n\
+    40084880 00000000|7|Unbuilt 6 Word\n\
+    80084880 00000000|7|Unbuilt 6 Word\n\
+    00084881 00000000|7|Unbuilt 6 Word\n\
+    00084882 00000000|7|Unbuilt 6 Word\n\
+    00084884 00000000|7|Unbuilt 6 Word\n\
+    00084888 00000000|7|Done\n\
+    00084890 00000000|7|Unbuilt 6 Word\n\
+    000848a0 00000000|7|Unbuilt 6 Word\n\
+    03400008 00000000|7|Done\n\
+    07400008 00000000|7|Unbuilt 6 Word\n\
+    0b400008 00000000|7|Unbuilt 6 Word\n\
+    13400008 00000000|7|Unbuilt 6 Word\n\
+    23400008 00000000|7|Unbuilt 6 Word\n\
+    43400008 00000000|7|Unbuilt 6 Word\n\
+    83400008 00000000|7|Unbuilt 6 Word\n\
+    03400009 00000000|7|Unbuilt 6 Word\n\
+    0340000a 00000000|7|Unbuilt 6 Word\n\
+    0340000c 00000000|7|Unbuilt 6 Word\n\
+    03400000 00000000|7|Done\n\
+    03400018 00000000|7|Unbuilt 6 Word\n\
+    03400028 00000000|7|Unbuilt 6 Word\n\
+    8f490000 00000000|7|Done\n\
+    8b490000 00000000|7|Unbuilt 6 Word\n\
+    87490000 00000000|7|Unbuilt 6 Word\n\
+    9f490000 00000000|7|Unbuilt 6 Word\n\
+    af490000 00000000|7|Done\n\
+    cf490000 00000000|7|Unbuilt 6 Word\n\
+    0f490000 00000000|7|Unbuilt 6 Word\n\
+    af490000 00000000|7|Done\n\
+    ab490000 00000000|7|Unbuilt 6 Word\n\
+    a7490000 00000000|7|Unbuilt 6 Word\n\
+    bf490000 00000000|7|Unbuilt 6 Word\n\
+    8f490000 00000000|7|Done\n\
+    ef490000 00000000|7|Unbuilt 6 Word\n\
+    2f490000 00000000|7|Unbuilt 6 Word\n\
+    409b6000 00000000|7|Done\n\
+    409b6800 00000000|7|Unbuilt 6 Word\n\
+    409b7000 00000000|7|Unbuilt 6 Word\n\
+    409b4000 00000000|7|Unbuilt 6 Word\n\
+    409b2000 00000000|7|Unbuilt 6 Word\n\
+    409be000 00000000|7|Unbuilt 6 Word\n\
+    40bb6000 00000000|7|Unbuilt 6 Word\n\
+    40db6000 00000000|7|Unbuilt 6 Word\n\
+    401b6000 00000000|7|Unbuilt 6 Word\n\
+    419b6000 00000000|7|Unbuilt 6 Word\n\
+    429b6000 00000000|7|Unbuilt 6 Word\n\
+    449b6000 00000000|7|Unbuilt 6 Word\n\
+    489b6000 00000000|7|Unbuilt 6 Word\n\
+    509b6000 00000000|7|Unbuilt 6 Word\n\
+    609b6000 00000000|7|Unbuilt 6 Word\n\
+    009b6000 00000000|7|Done\n\
+    c09b6000 00000000|7|Unbuilt 6 Word\n\
+"
 }
-
-// Asserts the answers of a table: each line has an image's words, the bound, and the answer, with bars between.
-fn assert_answers(rt: &impl Abort, alloc: Global, table: &str) -> Result<(), Fail> {
-    for line in table.lines() {
-        let mut parts = line.split('|');
-        let mut words = Vec::new(alloc);
-        for word in parts.next().ok_or("words")?.split(' ') {
-            words.push(word_of(word)?)?;
-        }
-        let steps = parts.next().ok_or("steps")?;
-        let want = parts.next().ok_or("answer")?;
-        let image = image_of(alloc, &words)?;
-        let out = answer_of(alloc, &image, steps)?;
-        assert_eq!(rt; out.bytes().trim_ascii(), want.as_bytes(), "{line}");
-    }
-    Ok(())
-}
-
-// A word that is run at the entry, the bits that are changed in turn, and the one with which it is another of the
-// seven; k0 is the entry's address.
-const NEIGHBOURS: &str = "\
-    3c08bf00 26 31 27\n\
-    34090041 26 31 27\n\
-    00084880 26 31 99\n\
-    00084880 0 5 3\n\
-    03400008 26 31 99\n\
-    03400008 0 5 3\n\
-    8f490000 26 31 29\n\
-    af490000 26 31 29\n\
-    409b6000 11 15 99\n\
-    409b6000 21 31 30\n";
 
 #[test]
 fn a_word_beside_the_seven_is_not_built(rt: HostRuntime) -> Result<(), Fail> {
-    let alloc = rt.alloc();
-    for line in NEIGHBOURS.lines() {
-        let mut parts = line.split(' ');
-        let word = word_of(parts.next().ok_or("word")?)?;
-        let low = parts.next().ok_or("low")?.parse::<u32>()?;
-        let high = parts.next().ok_or("high")?.parse::<u32>()?;
-        let other = parts.next().ok_or("other")?.parse::<u32>()?;
-        assert_eq!(rt; run_words(alloc, &[word, 0], "7")?, Status::Done, "{line}");
-        for bit in low..high + 1 {
-            let changed = word ^ 1u32.wrapping_shl(bit);
-            let want = if bit == other {
-                Status::Done
-            } else {
-                unbuilt(6, Part::Word)
-            };
-            assert_eq!(rt;
-                run_words(alloc, &[changed, 0], "7")?,
-                want,
-                "{changed:08x}"
-            );
-        }
-    }
-    Ok(())
+    assert_answers(&rt, rt.alloc(), neighbours())
 }
 
-// An address, and how a load and a store of a word there end.
-const EDGES: &str = "\
-    a0000000 Done Done\n\
-    a07ffffc Done Done\n\
-    a07ffffe Unbuilt Unbuilt\n\
-    a07ffffd Unbuilt Unbuilt\n\
-    a0000001 Unbuilt Unbuilt\n\
-    a0800000 Unbuilt Unbuilt\n\
-    befffffc Unbuilt Unbuilt\n\
-    bf000000 Done Done\n\
-    bf000002 Unbuilt Unbuilt\n\
-    bf000004 Unbuilt Unbuilt\n\
-    bf000008 Unbuilt Unbuilt\n\
-    bf000010 Unbuilt Unbuilt\n\
-    bf000014 Unbuilt Unbuilt\n\
-    bf000018 Unbuilt Unbuilt\n\
-    bf00001c Unbuilt Unbuilt\n\
-    bf000020 Done Done\n\
-    bf000024 Done Done\n\
-    bf000028 Unbuilt Unbuilt\n\
-    bf000ffc Unbuilt Unbuilt\n\
-    bf001000 Unbuilt Unbuilt\n\
-    bfbffffc Unbuilt Unbuilt\n\
-    bfc00000 Done Unbuilt\n\
-    bfc00ffc Done Unbuilt\n\
-    bfc01000 Unbuilt Unbuilt\n\
-    bffffffc Unbuilt Unbuilt\n\
-    00000000 Unbuilt Unbuilt\n\
-    80000000 Unbuilt Unbuilt\n\
-    9ffffffc Unbuilt Unbuilt\n\
-    c0000000 Unbuilt Unbuilt\n\
-    fffffffc Unbuilt Unbuilt\n";
-
-// `lui t0,HIGH; ori t0,t0,LOW`, and a word that loads or stores at t0 at tick 8.
-fn run_at(alloc: Global, va: u32, word: u32) -> Result<Status, AllocError> {
-    let high = 0x3c080000 | (va >> 16);
-    let low = 0x35080000 | (va & 0xffff);
-    run_words(alloc, &[high, low, word], "9")
+// `lui t0,HIGH; ori t0,t0,LOW; lw t1,0(t0)`: the load is met at tick 8.
+fn loads() -> &'static str {
+    "\
+    3c08a000 35080000 8d090000|9|Done\n\
+    3c08a07f 3508fffc 8d090000|9|Done\n\
+    3c08a07f 3508fffe 8d090000|9|Unbuilt 8 Access\n\
+    3c08a07f 3508fffd 8d090000|9|Unbuilt 8 Access\n\
+    3c08a000 35080001 8d090000|9|Unbuilt 8 Access\n\
+    3c08a080 35080000 8d090000|9|Unbuilt 8 Access\n\
+    3c08beff 3508fffc 8d090000|9|Unbuilt 8 Access\n\
+    3c08bf00 35080000 8d090000|9|Done\n\
+    3c08bf00 35080002 8d090000|9|Unbuilt 8 Access\n\
+    3c08bf00 35080004 8d090000|9|Unbuilt 8 Access\n\
+    3c08bf00 35080008 8d090000|9|Unbuilt 8 Access\n\
+    3c08bf00 35080010 8d090000|9|Unbuilt 8 Access\n\
+    3c08bf00 35080014 8d090000|9|Unbuilt 8 Access\n\
+    3c08bf00 35080018 8d090000|9|Unbuilt 8 Access\n\
+    3c08bf00 3508001c 8d090000|9|Unbuilt 8 Access\n\
+    3c08bf00 35080020 8d090000|9|Done\n\
+    3c08bf00 35080024 8d090000|9|Done\n\
+    3c08bf00 35080028 8d090000|9|Unbuilt 8 Access\n\
+    3c08bf00 35080ffc 8d090000|9|Unbuilt 8 Access\n\
+    3c08bf00 35081000 8d090000|9|Unbuilt 8 Access\n\
+    3c08bfbf 3508fffc 8d090000|9|Unbuilt 8 Access\n\
+    3c08bfc0 35080000 8d090000|9|Done\n\
+    3c08bfc0 35080ffc 8d090000|9|Done\n\
+    3c08bfc0 35081000 8d090000|9|Unbuilt 8 Access\n\
+    3c08bfff 3508fffc 8d090000|9|Unbuilt 8 Access\n\
+    3c080000 35080000 8d090000|9|Unbuilt 8 Access\n\
+    3c088000 35080000 8d090000|9|Unbuilt 8 Access\n\
+    3c089fff 3508fffc 8d090000|9|Unbuilt 8 Access\n\
+    3c08c000 35080000 8d090000|9|Unbuilt 8 Access\n\
+    3c08ffff 3508fffc 8d090000|9|Unbuilt 8 Access\n\
+"
 }
 
-fn edge_of(name: &str) -> Status {
-    if name == "Done" {
-        Status::Done
-    } else {
-        unbuilt(8, Part::Access)
-    }
+// The same with `sw t1,0(t0)`.
+fn stores() -> &'static str {
+    "\
+    3c08a000 35080000 ad090000|9|Done\n\
+    3c08a07f 3508fffc ad090000|9|Done\n\
+    3c08a07f 3508fffe ad090000|9|Unbuilt 8 Access\n\
+    3c08a07f 3508fffd ad090000|9|Unbuilt 8 Access\n\
+    3c08a000 35080001 ad090000|9|Unbuilt 8 Access\n\
+    3c08a080 35080000 ad090000|9|Unbuilt 8 Access\n\
+    3c08beff 3508fffc ad090000|9|Unbuilt 8 Access\n\
+    3c08bf00 35080000 ad090000|9|Done\n\
+    3c08bf00 35080002 ad090000|9|Unbuilt 8 Access\n\
+    3c08bf00 35080004 ad090000|9|Unbuilt 8 Access\n\
+    3c08bf00 35080008 ad090000|9|Unbuilt 8 Access\n\
+    3c08bf00 35080010 ad090000|9|Unbuilt 8 Access\n\
+    3c08bf00 35080014 ad090000|9|Unbuilt 8 Access\n\
+    3c08bf00 35080018 ad090000|9|Unbuilt 8 Access\n\
+    3c08bf00 3508001c ad090000|9|Unbuilt 8 Access\n\
+    3c08bf00 35080020 ad090000|9|Done\n\
+    3c08bf00 35080024 ad090000|9|Done\n\
+    3c08bf00 35080028 ad090000|9|Unbuilt 8 Access\n\
+    3c08bf00 35080ffc ad090000|9|Unbuilt 8 Access\n\
+    3c08bf00 35081000 ad090000|9|Unbuilt 8 Access\n\
+    3c08bfbf 3508fffc ad090000|9|Unbuilt 8 Access\n\
+    3c08bfc0 35080000 ad090000|9|Unbuilt 8 Access\n\
+    3c08bfc0 35080ffc ad090000|9|Unbuilt 8 Access\n\
+    3c08bfc0 35081000 ad090000|9|Unbuilt 8 Access\n\
+    3c08bfff 3508fffc ad090000|9|Unbuilt 8 Access\n\
+    3c080000 35080000 ad090000|9|Unbuilt 8 Access\n\
+    3c088000 35080000 ad090000|9|Unbuilt 8 Access\n\
+    3c089fff 3508fffc ad090000|9|Unbuilt 8 Access\n\
+    3c08c000 35080000 ad090000|9|Unbuilt 8 Access\n\
+    3c08ffff 3508fffc ad090000|9|Unbuilt 8 Access\n\
+"
 }
 
 #[test]
-fn loads_and_stores_reach_the_map_to_its_edges(rt: HostRuntime) -> Result<(), Fail> {
-    let alloc = rt.alloc();
-    for line in EDGES.lines() {
-        let mut parts = line.split(' ');
-        let va = word_of(parts.next().ok_or("address")?)?;
-        let load = edge_of(parts.next().ok_or("load")?);
-        let store = edge_of(parts.next().ok_or("store")?);
-        assert_eq!(rt; run_at(alloc, va, 0x8d090000)?, load, "{line}");
-        assert_eq!(rt; run_at(alloc, va, 0xad090000)?, store, "{line}");
-    }
-    Ok(())
+fn loads_reach_the_map_to_its_edges(rt: HostRuntime) -> Result<(), Fail> {
+    assert_answers(&rt, rt.alloc(), loads())
+}
+
+#[test]
+fn stores_reach_the_map_to_its_edges(rt: HostRuntime) -> Result<(), Fail> {
+    assert_answers(&rt, rt.alloc(), stores())
 }
 
 // `lui t0,HIGH; ori t0,t0,LOW; jr t0; nop`: the target is fetched at tick 10. The last words of RAM and of the PROM are
 // zero, and the fetch after them is refused. The first word of the PROM's handler is none of the seven.
-const TARGETS: &str = "\
+fn targets() -> &'static str {
+    "\
     3c08a000 35080000 01000008 00000000|20|Done\n\
     3c08a07f 3508fffc 01000008 00000000|20|Unbuilt 11 Access\n\
     3c08bfc0 35080ffc 01000008 00000000|20|Unbuilt 11 Access\n\
@@ -547,36 +590,34 @@ const TARGETS: &str = "\
     3c088001 35080000 01000008 00000000|20|Unbuilt 10 Access\n\
     3c08c001 35080000 01000008 00000000|20|Unbuilt 10 Access\n\
     3c080001 35080000 01000008 00000000|20|Unbuilt 10 Access\n\
-    3c08bfc0 35080380 01000008 00000000|20|Unbuilt 10 Word\n";
+    3c08bfc0 35080380 01000008 00000000|20|Unbuilt 10 Word\n\
+"
+}
 
 #[test]
 fn fetches_reach_the_map_to_its_edges(rt: HostRuntime) -> Result<(), Fail> {
-    assert_answers(&rt, rt.alloc(), TARGETS)
+    assert_answers(&rt, rt.alloc(), targets())
 }
 
-// `ori t0,zero,STATUS; mtc0 t0,Status; nop`: the fetch at tick 8 is in the mode that Status gives.
-const MODES: &str = "\
+// `ori t0,zero,STATUS; mtc0 t0,Status; nop`: the fetch at tick 8 is in the mode that Status gives. Then a word that is
+// not built, at tick 7: the steps below the bound alone count.
+fn modes() -> &'static str {
+    "\
     34080000 40886000 00000000|9|Done\n\
     34080008 40886000 00000000|9|Unbuilt 8 Access\n\
     34080010 40886000 00000000|9|Unbuilt 8 Access\n\
     34080018 40886000 00000000|9|Unbuilt 8 Access\n\
     3408000a 40886000 00000000|9|Done\n\
     34080014 40886000 00000000|9|Done\n\
-    3408ff01 40886000 00000000|9|Done\n";
-
-#[test]
-fn a_fetch_outside_kernel_mode_is_not_built(rt: HostRuntime) -> Result<(), Fail> {
-    assert_answers(&rt, rt.alloc(), MODES)
+    3408ff01 40886000 00000000|9|Done\n\
+    00000000 20000000|7|Done\n\
+    00000000 20000000|8|Unbuilt 7 Word\n\
+"
 }
 
-// A word that is not built stands at tick 7.
-const BOUNDS: &str = "\
-    00000000 20000000|7|Done\n\
-    00000000 20000000|8|Unbuilt 7 Word\n";
-
 #[test]
-fn the_steps_below_the_bound_alone_count(rt: HostRuntime) -> Result<(), Fail> {
-    assert_answers(&rt, rt.alloc(), BOUNDS)
+fn fetches_are_in_kernel_mode_and_below_the_bound(rt: HostRuntime) -> Result<(), Fail> {
+    assert_answers(&rt, rt.alloc(), modes())
 }
 
 #[test]
@@ -597,9 +638,9 @@ fn each_status_has_its_number_and_its_line(rt: HostRuntime) -> Result<(), Fail> 
         assert_eq!(rt; status_number(&status), number);
         write_status(&status, &mut out)?;
     }
-    let lines: &[u8] =
-        b"Done\nUsage\nReadFault\nWriteFault\nMemory\nUnbuilt 0 Image\nUnbuilt 4294967294 Word\n\
-        Unbuilt 7 Access\n";
+    let lines: &[u8] = b"Done\nUsage\nReadFault\nWriteFault\n\
+        BadImage Table 28\nBadImage Short 0\nMemory\nTooLong\n\
+        Unbuilt 4294967294 Word\nUnbuilt 7 Access\n";
     assert_eq!(rt; out.bytes(), lines);
     Ok(())
 }
