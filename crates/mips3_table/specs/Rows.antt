@@ -39,7 +39,7 @@ row class number name form = record { name = name; class = class; mask = mask_of
 abbrev pub row_64 : Class → ℕ → List ℕ → Form → Row
 row_64 class number name form = record { name = name; class = class; mask = mask_of class; match = match_of class number; form = form; is_64_bit = true }
 
--- by opcode, bits 31:26: rows 0 to 53
+-- by opcode, bits 31:26; their places in the table are 0 to 53
 abbrev pub opcode_rows : List Row
 opcode_rows =
     -- jumps
@@ -105,7 +105,7 @@ opcode_rows =
     row Opcode 62 (codes "sdc2") CoprocessorMemory ∷
     []
 
--- opcode 0 (SPECIAL), by function, bits 5:0: rows 54 to 105
+-- opcode 0 (SPECIAL), by function, bits 5:0; places 54 to 105
 abbrev pub special_rows : List Row
 special_rows =
     -- shifts
@@ -168,7 +168,7 @@ special_rows =
     row Special 54 (codes "tne") TrapRegisters ∷
     []
 
--- opcode 1 (REGIMM), by bits 20:16: rows 106 to 119
+-- opcode 1 (REGIMM), by bits 20:16; places 106 to 119
 abbrev pub regimm_rows : List Row
 regimm_rows =
     -- branches
@@ -189,7 +189,7 @@ regimm_rows =
     row Regimm 14 (codes "tnei") TrapImmediate ∷
     []
 
--- opcode 16 (COP0), by bits 25:21: rows 120 to 123
+-- opcode 16 (COP0), by bits 25:21; places 120 to 123
 abbrev pub cop0_move_rows : List Row
 cop0_move_rows =
     row Cop0Move 0 (codes "mfc0") Cp0Move ∷
@@ -198,7 +198,7 @@ cop0_move_rows =
     row_64 Cop0Move 5 (codes "dmtc0") Cp0Move ∷
     []
 
--- opcode 16 (COP0) with bit 25 set, by function, bits 5:0: rows 124 to 128
+-- opcode 16 (COP0) with bit 25 set, by function, bits 5:0; places 124 to 128
 abbrev pub cop0_function_rows : List Row
 cop0_function_rows =
     row Cop0Function 1 (codes "tlbr") NoOperands ∷
