@@ -8,8 +8,13 @@
 //! Reading order: the reasons of a refusal, the kinds of tokens.
 #![tactic(auto)]
 
+mod lexing;
+mod names;
 mod reason;
 mod token;
+mod writing;
 
+
+pub use lexing::tokens;
 pub use reason::AsmWhy;
 pub use token::{Token, TokenKind};
