@@ -10,11 +10,13 @@
 
 mod lexing;
 mod names;
+mod printing;
 mod reason;
 mod token;
 mod writing;
 
 
 pub use lexing::tokens;
+pub use printing::print_inst;
 pub use reason::AsmWhy;
 pub use token::{Token, TokenKind};
