@@ -9,14 +9,14 @@ use crate::token::{Start, Token, TokenKind};
 use arrayvec::ArrayVec;
 
 /// The byte at an index, 0 past the end.
-fn byte_at(text: &[u8], at: usize) -> u8
+pub fn byte_at(text: &[u8], at: usize) -> u8
     ensures { result ≡ slice_index text.now at }
 {
     if at < text.len() { text[at] } else { 0 }
 }
 
 /// What follows an index.
-fn rest_from(text: &[u8], at: usize) -> &[u8]
+pub fn rest_from(text: &[u8], at: usize) -> &[u8]
     ensures value { result.now ≡ drop at text.now }
     ensures len { length result.now ≡ length text.now - at }
 {

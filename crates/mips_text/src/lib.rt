@@ -11,6 +11,7 @@
 mod lexing;
 mod names;
 mod printing;
+mod reading;
 mod reason;
 mod token;
 mod writing;
@@ -18,5 +19,6 @@ mod writing;
 
 pub use lexing::tokens;
 pub use printing::print_inst;
+pub use reading::{cp0_register_of, escaped, number_of, register_of};
 pub use reason::AsmWhy;
 pub use token::{Token, TokenKind};

@@ -3,8 +3,6 @@
 ghost use Rattle.std.specs.Prelude.{◌≡◌, ◌<◌, ◌≤◌, length};
 ghost use Rattle.mips_text.specs.Names as names;
 
-use r4_words::read_dec;
-
 /// The name of a general register.
 #[tactic(auto, unfolding(crate::specs::Names::register_name, crate::specs::Names::register_names))]
 pub fn register_name(register: u8) -> &'static str
