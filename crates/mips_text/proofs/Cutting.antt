@@ -239,7 +239,7 @@ stands_blank line tokens at so_far within is =
       within = omega arith;
       tokens_are = ap (λ cut. tokens ++ cut.tokens) (sym step) ∙ so_far.tokens_are;
       refusal_is = ap (λ cut. cut.refusal) (sym step) ∙ so_far.refusal_is;
-      in_order = in_order_widened 0 tokens at (at + 1) so_far.in_order (omega arith)
+      in_order = in_order_widened 0 tokens at (at + 1) so_far.in_order (omega arith);
     }
 
 pub stands_token : (line : List ℕ) (tokens : List Token) (at size : ℕ) (kind : TokenKind) → Stands line tokens at → at < length line → start_of (drop at line) ≡ Begins kind size →
@@ -253,7 +253,7 @@ stands_token line tokens at size kind so_far within is spans =
       within = fits;
       tokens_are = append_assoc tokens (token_at kind at size ∷ []) (cut_from 0 (at + size) (drop (at + size) line)).tokens ∙ ap (λ cut. tokens ++ cut.tokens) (sym step) ∙ so_far.tokens_are;
       refusal_is = ap (λ cut. cut.refusal) (sym step) ∙ so_far.refusal_is;
-      in_order = in_order_pushed 0 tokens at (token_at kind at size) (at + size) so_far.in_order (omega arith) (omega arith) (omega arith)
+      in_order = in_order_pushed 0 tokens at (token_at kind at size) (at + size) so_far.in_order (omega arith) (omega arith) (omega arith);
     }
 
 -- a cut of a line that comes to an end with these tokens and this refusal
@@ -265,7 +265,7 @@ ends_with line tokens at why so_far few is =
     record {
       tokens_are = sym (ap (λ cut. cut.tokens) same ∙ all);
       refusal_is = sym (ap (λ cut. cut.refusal) same ∙ sym so_far.refusal_is ∙ ap (λ cut. cut.refusal) is);
-      in_order = in_order_widened 0 tokens at (length line) so_far.in_order so_far.within
+      in_order = in_order_widened 0 tokens at (length line) so_far.in_order so_far.within;
     }
 
 pub ends_line : (line : List ℕ) (tokens : List Token) (at : ℕ) → Stands line tokens at → length tokens ≤ 64 → length line ≤ at → Ends line tokens None
@@ -290,7 +290,7 @@ ends_full line tokens at size kind so_far full within is spans =
     record {
       tokens_are = sym (ap (λ cut. cut.tokens) same ∙ ap (take 64) all ∙ first);
       refusal_is = sym (ap (λ cut. cut.refusal) same);
-      in_order = in_order_widened 0 tokens at (length line) so_far.in_order so_far.within
+      in_order = in_order_widened 0 tokens at (length line) so_far.in_order so_far.within;
     }
 
 in_order_le : (from : ℕ) (tokens : List Token) (to : ℕ) → InOrder from tokens to → from ≤ to

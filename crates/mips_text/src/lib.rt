@@ -16,9 +16,11 @@ mod reason;
 mod token;
 mod writing;
 
-
 pub use lexing::tokens;
 pub use printing::print_inst;
 pub use reading::{cp0_register_of, escaped, number_of, register_of};
 pub use reason::AsmWhy;
 pub use token::{Token, TokenKind};
+
+#[cfg(test)]
+mod tests;
