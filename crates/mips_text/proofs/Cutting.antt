@@ -1,9 +1,8 @@
 -- How a line is cut, token by token.
-use Rattle.std.proofs.Common.{◌≡◌, ◌<◌, ◌≤◌, ◌+◌, ◌-◌, ◌==◌, ℕ, zero, suc, Bool, true, false, List, [], ◌∷◌, ◌++◌, length, drop, take, slice_index, Option, Some, None, refl, ap, sym, ◌∙◌, subst, arith, length-drop, get_or, cond, IfSome, nat_lt, append_assoc, append-nil, length-append, slice_index_or, ◌||◌, ◌&&◌, if◌then◌else◌, Fits}
+use Rattle.std.proofs.Common.{◌≡◌, ◌<◌, ◌≤◌, ◌+◌, ◌-◌, ◌==◌, ℕ, zero, suc, Bool, true, false, List, [], ◌∷◌, ◌++◌, length, drop, take, slice_index, Option, Some, None, refl, ap, sym, ◌∙◌, subst, arith, length-drop, get_or, cond, IfSome, nat_lt, append_assoc, append-nil, length-append, slice_index_or, ◌||◌, ◌&&◌, if◌then◌else◌}
 use Rattle.std.proofs.lemmas.Grind.{common_steps}
 use Rattle.std.proofs.lemmas.List.{drop-drop}
 use Rattle.std.proofs.lemmas.List.Sums.{prefix_len-le-length}
-use Rattle.std.proofs.lemmas.Bool.{eqb-false, eqb-true, eq-eqb, cases_Bool}
 use Rattle.std.proofs.Math.ListN.{drop_of_length-le}
 use Rattle.std.proofs.Math.Seq.{take-append_seam}
 use Rattle.std.specs.List.{prefix_len, All}
@@ -11,7 +10,7 @@ use Rattle.mips_text.specs.declared.reason.AsmWhy.{AsmWhy}
 use Rattle.mips_text.specs.declared.reason.AsmWhy.TheVariants.{Operand, Unknown}
 use Rattle.mips_text.specs.declared.token.Token.{Token}
 use Rattle.mips_text.specs.declared.token.TokenKind.{TokenKind}
-use Rattle.mips_text.specs.declared.token.TokenKind.TheVariants.{Name, Number, Text, Mark}
+use Rattle.mips_text.specs.declared.token.TokenKind.TheVariants.{Name, Number, Mark}
 use Rattle.mips_text.specs.declared.token.Start.{Start}
 use Rattle.mips_text.specs.declared.token.Start.TheVariants.{Blank, Comment, Begins, Refused}
 use Rattle.mips_text.specs.Tokens.{Cut, whole, refused, before, token_at, cut_by, cut_from, start_of, one_more, quoted_length, quoted, number_length, is_hexadecimal, is_digit, is_hex_digit, is_name_start, is_name_byte, is_blank, is_mark, Spans, InOrder, IsWithin, at_most, Ends}

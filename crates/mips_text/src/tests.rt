@@ -4,6 +4,7 @@ use super::*;
 use arrayvec::ArrayVec;
 use mips3_code::decode;
 use r4_words::{Line, read_hex};
+use std::alloc::{AllocError, Global};
 use std::process::Abort;
 
 // A word, its address and its text: a program that prints a letter and halts, and the PROM's code.
@@ -296,4 +297,56 @@ fn numbers_are_read_below_two_to_the_32(rt: HostRuntime) {
         let number = parts.next().unwrap_or("").parse::<i64>().ok();
         assert_eq!(rt; number_of(text), number, "{case}");
     }
+}
+
+// A text in quotes, and what it stands for: None where it has a backslash that escapes nothing.
+const TEXTS: &str = "\
+    \"\"||0\n\
+    \"a#'\"|a#'|3\n\
+    \"\\\\\\\"\"|\\\"|2\n\
+    \"\\0n\\0\"|\0n\0|3\n\
+    \"\\t\"||-\n\
+    \"a\\r\"||-\n";
+
+fn assert_text(
+    rt: &impl Abort,
+    alloc: Global,
+    text: &[u8],
+    size: Option<usize>,
+    bytes: &[u8],
+) -> Result<(), AllocError> {
+    let mut out = Vec::new(alloc);
+    let answer = text_size(text);
+    match answer {
+        Some(_) => push_text(text, &mut out)?,
+        None => {}
+    }
+    assert_eq!(rt; answer, size);
+    assert_eq!(rt; out.as_slice(), bytes);
+    Ok(())
+}
+
+#[test]
+fn texts_stand_for_their_bytes(rt: HostRuntime) -> Result<(), AllocError> {
+    let alloc = rt.alloc();
+    for case in TEXTS.lines() {
+        let mut parts = case.split('|');
+        let text = parts.next().unwrap_or("").as_bytes();
+        let bytes = parts.next().unwrap_or("").as_bytes();
+        let size = parts.next().unwrap_or("").parse::<usize>().ok();
+        assert_text(&rt, alloc, text, size, bytes)?;
+    }
+    // a line's end cannot stand in the table
+    assert_text(&rt, alloc, b"\"\\n\"", Some(1), b"\n")
+}
+
+#[test]
+fn rows_are_found_by_their_names(rt: HostRuntime) {
+    assert_eq!(rt; row_named(b"j"), Some(0));
+    assert_eq!(rt; row_named(b"jal"), Some(1));
+    assert_eq!(rt; row_named(b"sll"), Some(54));
+    assert_eq!(rt; row_named(b"eret"), Some(128));
+    assert_eq!(rt; row_named(b"li"), None);
+    assert_eq!(rt; row_named(b"J"), None);
+    assert_eq!(rt; row_named(b""), None);
 }
