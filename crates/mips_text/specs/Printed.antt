@@ -1,12 +1,12 @@
 -- The printed text of an instruction.
 -- Source: the operand forms of the MIPS R4000 Microprocessor User's Manual, 2nd edition (Heinrich), appendix A, and of
 -- its jumps and branches the target's address.
-use Rattle.std.specs.Prelude.{ℕ, ◌+◌, ◌-◌, ◌*◌, ◌/◌, ◌%◌, ◌^◌, ◌==◌, nat_lt, if◌then◌else◌, List, [], ◌∷◌, ◌++◌, map, codes}
+use Rattle.std.specs.Prelude.{ℕ, ◌+◌, ◌-◌, ◌*◌, ◌/◌, ◌%◌, ◌^◌, ◌==◌, nat_lt, if◌then◌else◌, List, [], ◌∷◌, ◌++◌, map, codes, Option, Some, None}
 use Rattle.r4_words.specs.Texts.{dec_of}
 use Rattle.mips3_table.specs.declared.instruction.Inst.{Inst}
 use Rattle.mips3_table.specs.declared.operand_forms.Form.{Form}
 use Rattle.mips3_table.specs.Rows.{row_at}
-use Rattle.mips3_code.specs.Coding.{encoded}
+use Rattle.mips3_code.specs.Coding.{decoded, encoded}
 use Rattle.mips_text.specs.Names.{register_name, cp0_name}
 use Rattle.mips_text.specs.Values.{hex_text, signed_text}
 use Rattle.mips_text.specs.Forms.{Field, Rs, Rt, Rd, Sa, Imm, Operand, Register, Cp0Register, Decimal, Hexadecimal, Signed, Based, BranchTarget, JumpTarget, operands_of}
@@ -68,3 +68,12 @@ by_form name form inst at = name ++ after_name (operand_texts form inst at)
 -- The text of an instruction at an address: `nop` for the word 0, else the row's name and the operands.
 unfoldable pub text_of : Inst → ℕ → List ℕ
 text_of inst at = if encoded inst == 0 then codes "nop" else by_form (row_at inst.row).name (row_at inst.row).form inst at
+
+-- the text of a word whose instruction this is, and of a reserved word
+abbrev pub decoded_text : ℕ → Option Inst → ℕ → List ℕ
+decoded_text word (Some inst) at = text_of inst at
+decoded_text word None at = codes ".word " ++ hex_text word
+
+-- The text of a word at an address: that of its instruction, and for a reserved word `.word` and the number.
+abbrev pub word_text : ℕ → ℕ → List ℕ
+word_text word at = decoded_text word (decoded word) at

@@ -6,13 +6,13 @@ ghost use Rattle.mips3_table.specs.Operands.{widths_of};
 ghost use Rattle.mips3_table.specs.Instructions.{FitsWidths, IsInst};
 ghost use Rattle.mips3_table.specs.Rows.{row_at};
 ghost use Rattle.mips_text.specs.Names.{register_name as name_of_register};
-ghost use Rattle.mips_text.specs.Printed.{after_name, by_form, operand_texts, text_of};
+ghost use Rattle.mips_text.specs.Printed.{after_name, by_form, operand_texts, text_of, word_text};
 
 use crate::writing::{
     put_based, put_branch_target, put_cp0_register, put_hexadecimal, put_jump_target, put_register,
     put_signed,
 };
-use mips3_code::encode;
+use mips3_code::{decode, encode};
 use mips3_table::{Form, Inst, form_of, name_of};
 use r4_words::{Line, put_dec, put_text};
 
@@ -24,6 +24,21 @@ pub fn print_inst(inst: &Inst, at: u32, out: &mut Line)
     ensures { out.new.items ≡ text_of inst.now at }
 {
     put_statement(inst, at, out);
+}
+
+/// Prints a word at an address: as its instruction, or as `.word` and its number where the word is reserved.
+#[tactic(auto, using(std::proofs::lemmas::Grind::common_steps))]
+pub fn print_word(word: u32, at: u32, out: &mut Line)
+    requires empty { out.old.items ≡ [] }
+    ensures { out.new.items ≡ word_text word at }
+{
+    match decode(word) {
+        Some(inst) => print_inst(&inst, at, out),
+        None => {
+            put_text(b".word ", out);
+            put_hexadecimal(word, out);
+        }
+    }
 }
 
 /// Appends the text of an instruction.

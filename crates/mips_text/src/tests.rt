@@ -83,11 +83,13 @@ const FORMS: &str = "\
     40a03800|00000000|dmtc0 zero,c7\n\
     401ff800|00000000|mfc0 ra,c31\n";
 
-// Words with noise in bits that the row does not use.
+// Words with noise in bits that the row does not use, and reserved words.
 const NOISE: &str = "\
     03e00208|00000000|jr ra\n\
     00200000|00000000|nop\n\
-    43ffffd8|00000000|eret\n";
+    43ffffd8|00000000|eret\n\
+    00000001|00000000|.word 0x1\n\
+    4c00000f|00000000|.word 0x4c00000f\n";
 
 fn assert_printed(rt: &impl Abort, case: &str) {
     let mut parts = case.split('|');
@@ -95,11 +97,19 @@ fn assert_printed(rt: &impl Abort, case: &str) {
     let at = read_hex(parts.next().unwrap_or("").as_bytes(), 8).unwrap_or(1);
     let text = parts.next().unwrap_or("");
     let mut line = Line::new();
-    match decode((word % 0x1_0000_0000) as u32) {
-        Some(inst) => print_inst(&inst, (at % 0x1_0000_0000) as u32, &mut line),
-        None => assert!(rt; false, "{case} is reserved"),
-    }
+    let (word, at) = ((word % 0x1_0000_0000) as u32, (at % 0x1_0000_0000) as u32);
+    print_word(word, at, &mut line);
     assert_eq!(rt; line.as_slice(), text.as_bytes(), "{case}");
+}
+
+#[test]
+fn a_branch_is_printed_with_its_target(rt: HostRuntime) {
+    let mut line = Line::new();
+    match decode(0x13600007) {
+        Some(inst) => print_inst(&inst, 0xbfc0038c, &mut line),
+        None => {}
+    }
+    assert_eq!(rt; line.as_slice(), b"beq k1,zero,0xbfc003ac".as_slice());
 }
 
 #[test]
@@ -117,7 +127,7 @@ fn each_form_is_printed_with_extreme_operands(rt: HostRuntime) {
 }
 
 #[test]
-fn noise_in_unused_bits_is_not_printed(rt: HostRuntime) {
+fn noise_is_not_printed_and_reserved_words_are_numbers(rt: HostRuntime) {
     for case in NOISE.lines() {
         assert_printed(&rt, case);
     }
