@@ -1,0 +1,79 @@
+-- The printed text of an instruction.
+-- Source: the operand forms of the MIPS R4000 Microprocessor User's Manual, 2nd edition (Heinrich), appendix A, and of
+-- its jumps and branches the target's address.
+use Rattle.std.specs.Prelude.{ℕ, ◌+◌, ◌-◌, ◌*◌, ◌/◌, ◌%◌, ◌^◌, ◌==◌, nat_lt, if◌then◌else◌, List, [], ◌∷◌, ◌++◌, map, codes, Option, Some, None}
+use Rattle.r4_words.specs.Texts.{dec_of}
+use Rattle.mips3_table.specs.declared.instruction.Inst.{Inst}
+use Rattle.mips3_table.specs.declared.operand_forms.Form.{Form}
+use Rattle.mips3_table.specs.Rows.{row_at}
+use Rattle.mips3_code.specs.Coding.{decoded, encoded}
+use Rattle.mips_text.specs.Names.{register_name, cp0_name}
+use Rattle.mips_text.specs.Values.{hex_text, signed_text}
+use Rattle.mips_text.specs.Forms.{Field, Rs, Rt, Rd, Sa, Imm, Operand, Register, Cp0Register, Decimal, Hexadecimal, Signed, Based, BranchTarget, JumpTarget, operands_of}
+
+-- what a field of an instruction has
+abbrev pub field_of : Field → Inst → ℕ
+field_of Rs inst = inst.rs
+field_of Rt inst = inst.rt
+field_of Rd inst = inst.rd
+field_of Sa inst = inst.sa
+field_of Imm inst = inst.imm
+
+-- 16 bits in two's complement, extended to 32
+abbrev pub sign_extended : ℕ → ℕ
+sign_extended half = if nat_lt half (2 ^ 15) then half else half + (2 ^ 32 - 2 ^ 16)
+
+-- where a branch at this address goes: so many words from its delay slot
+unfoldable pub branch_target : ℕ → ℕ → ℕ
+branch_target at distance = (at + 4 + 4 * sign_extended distance) % 2 ^ 32
+
+-- where a jump at this address goes: the word of this number within the 256 MB of its delay slot
+unfoldable pub jump_target : ℕ → ℕ → ℕ
+jump_target at number = (at + 4) % 2 ^ 32 / 2 ^ 28 * 2 ^ 28 + 4 * number
+
+-- `off(base)`
+unfoldable pub based_text : ℕ → ℕ → List ℕ
+based_text offset base = signed_text offset ++ codes "(" ++ register_name base ++ codes ")"
+
+-- the text of an operand of an instruction at this address
+abbrev pub operand_text : Inst → ℕ → Operand → List ℕ
+operand_text inst at (Register field) = register_name (field_of field inst)
+operand_text inst at Cp0Register = cp0_name inst.rd
+operand_text inst at (Decimal field width) = dec_of (field_of field inst)
+operand_text inst at (Hexadecimal field width) = hex_text (field_of field inst)
+operand_text inst at Signed = signed_text inst.imm
+operand_text inst at Based = based_text inst.imm inst.rs
+operand_text inst at BranchTarget = hex_text (branch_target at inst.imm)
+operand_text inst at JumpTarget = hex_text (jump_target at inst.imm)
+
+-- the texts of the operands of a form
+abbrev pub operand_texts : Form → Inst → ℕ → List (List ℕ)
+operand_texts form inst at = map (operand_text inst at) (operands_of form)
+
+-- texts with commas between them
+abbrev pub with_commas : List (List ℕ) → List ℕ
+with_commas [] = []
+with_commas (one ∷ []) = one
+with_commas (one ∷ next ∷ more) = one ++ codes "," ++ with_commas (next ∷ more)
+
+-- after a name: one blank and the operands, and nothing where there are none
+abbrev pub after_name : List (List ℕ) → List ℕ
+after_name [] = []
+after_name (one ∷ more) = codes " " ++ with_commas (one ∷ more)
+
+-- the text of an instruction by its form
+abbrev pub by_form : List ℕ → Form → Inst → ℕ → List ℕ
+by_form name form inst at = name ++ after_name (operand_texts form inst at)
+
+-- The text of an instruction at an address: `nop` for the word 0, else the row's name and the operands.
+unfoldable pub text_of : Inst → ℕ → List ℕ
+text_of inst at = if encoded inst == 0 then codes "nop" else by_form (row_at inst.row).name (row_at inst.row).form inst at
+
+-- the text of a word whose instruction this is, and of a reserved word
+abbrev pub decoded_text : ℕ → Option Inst → ℕ → List ℕ
+decoded_text word (Some inst) at = text_of inst at
+decoded_text word None at = codes ".word " ++ hex_text word
+
+-- The text of a word at an address: that of its instruction, and for a reserved word `.word` and the number.
+abbrev pub word_text : ℕ → ℕ → List ℕ
+word_text word at = decoded_text word (decoded word) at
