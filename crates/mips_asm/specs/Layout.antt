@@ -2,7 +2,7 @@
 -- not stand at its address.
 -- Source: the assembler language of this project. An image lies in kseg0 and kseg1, which the TLB does not map, and has
 -- at most as many bytes as this machine's RAM (MIPS R4000 Microprocessor User's Manual, 2nd edition, Heinrich, chapter 4).
-use Rattle.std.specs.Prelude.{ℕ, ◌+◌, ◌-◌, ◌*◌, ◌%◌, ◌^◌, ◌==◌, nat_lt, nat_le, Bool, true, false, not, ◌&&◌, ◌||◌, if◌then◌else◌, List, [], ◌∷◌, length, Option, Some, None, is_some, codes, bytes_eq, unwrap_or}
+use Rattle.std.specs.Prelude.{ℕ, ◌+◌, ◌-◌, ◌*◌, ◌%◌, ◌^◌, ◌==◌, nat_lt, nat_le, Bool, true, false, not, ◌&&◌, ◌||◌, if◌then◌else◌, List, [], ◌∷◌, ◌++◌, length, Option, Some, None, is_some, codes, bytes_eq, unwrap_or}
 use Rattle.mips_text.specs.declared.reason.AsmWhy.{AsmWhy}
 use Rattle.mips_text.specs.declared.reason.AsmWhy.TheVariants as why
 use Rattle.mips_asm.specs.Line.{Item, Plain, BranchTo, JumpTo, LoadNumber, LoadLabel, Words, Bytes, Zeros, Origin, Aligned, Line, Reading, Read, Refused, read_line}
@@ -81,14 +81,14 @@ abbrev pub label_at : List (List ℕ × ℕ) → List ℕ → Option ℕ
 label_at [] name = None
 label_at (pair ∷ labels) name = if bytes_eq pair.0 name then Some pair.1 else label_at labels name
 
--- where the next line stands, and the labels of the lines before, the last one first
+-- where the next line stands, and the labels of the lines before, in their order
 pub record Place : Type 0 where
   pub address : ℕ
   pub labels : List (List ℕ × ℕ)
 
 abbrev pub with_label_at : Option (List ℕ) → ℕ → List (List ℕ × ℕ) → List (List ℕ × ℕ)
 with_label_at None address labels = labels
-with_label_at (Some name) address labels = (name , address) ∷ labels
+with_label_at (Some name) address labels = labels ++ (name , address) ∷ []
 
 -- the place after a line
 abbrev pub place_after : Place → Line → Place
