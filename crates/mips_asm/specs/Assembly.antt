@@ -62,7 +62,7 @@ where_known None coded = Lacking why.NoLabel
 -- lui and ori, which load a register with a number of 32 bits
 unfoldable pub loading : ℕ → ℕ → List ℕ
 loading register number =
-    bytes_of (encoded (record (bare lui_row) { rt = register; imm = number / 2 ^ 16 }))
+    bytes_of (encoded (record (bare lui_row) { rt = register; imm = number / 2 ^ 16 % 2 ^ 16 }))
     ++ bytes_of (encoded (record (bare ori_row) { rs = register; rt = register; imm = number % 2 ^ 16 }))
 
 abbrev pub bytes_of_words : List ℕ → List ℕ

@@ -79,7 +79,7 @@ size_of address (Some item) = size_at address item
 -- the address of a label, by the first pair that has its name
 abbrev pub label_at : List (List ℕ × ℕ) → List ℕ → Option ℕ
 label_at [] name = None
-label_at (pair ∷ labels) name = if bytes_eq pair.0 name then Some pair.1 else label_at labels name
+label_at (pair ∷ labels) name = if bytes_eq name pair.0 then Some pair.1 else label_at labels name
 
 -- where the next line stands, and the labels of the lines before, in their order
 pub record Place : Type 0 where
@@ -90,11 +90,11 @@ abbrev pub with_label_at : Option (List ℕ) → ℕ → List (List ℕ × ℕ) 
 with_label_at None address labels = labels
 with_label_at (Some name) address labels = labels ++ (name , address) ∷ []
 
--- the place after a line
+-- the place after a line; an address is a number of 32 bits, and a place past them is one of no image
 abbrev pub place_after : Place → Line → Place
 place_after place line = record {
   address = place.address + size_of place.address line.item;
-  labels = with_label_at line.label place.address place.labels;
+  labels = with_label_at line.label (place.address % 2 ^ 32) place.labels;
 }
 
 -- REASONS

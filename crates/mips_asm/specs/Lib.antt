@@ -1,3 +1,5 @@
 pub mod Line
 pub mod Layout
 pub mod Assembly
+pub mod Shown
+pub mod LabelsOf

@@ -1,11 +1,13 @@
 //! The assembler of a whole source: an image's base, entry and bytes, or the first line that is refused.
+//!
+//! A line is read to what it says, or to the first reason for which it says nothing. The base of the image is found;
+//! a first pass gives each line its address and the labels theirs, and a second one gives each line its bytes.
+//!
+//! Reading order: what a line says, the labels, the layout, the bytes of statements.
 #![tactic(auto)]
 
-ghost use Rattle.std.specs.Prelude.{◌≡◌};
-ghost use Rattle.mips_asm.specs.Layout.{is_unmapped as is_unmapped_address};
-
-fn is_unmapped(address: u64) -> bool
-    ensures { result ≡ is_unmapped_address address }
-{
-    address >= 0x80000000 && address < 0xc0000000
-}
+mod coding;
+mod items;
+mod labels;
+mod layout;
+mod texts;

@@ -1,0 +1,9 @@
+-- The labels that a map has.
+use Rattle.std.specs.Prelude.{ℕ, List, [], ◌∷◌}
+use Rattle.std.specs.declared.vec.Vec.{Vec}
+use Rattle.std.specs.declared.alloc.Global.{Global}
+
+-- the labels of a map's entries
+abbrev pub labels_shown : List (Vec ℕ Global × ℕ) → List (List ℕ × ℕ)
+labels_shown [] = []
+labels_shown (entry ∷ entries) = (entry.0.items , entry.1) ∷ labels_shown entries
