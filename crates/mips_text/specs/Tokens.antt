@@ -1,7 +1,7 @@
 -- The tokens of one line of assembler text.
 -- Source: the assembler language of this project, whose names, numbers, marks and texts are a part of those of the MIPS
 -- assembler (MIPS Assembly Language Programmer's Guide, chapters "Lexical Conventions" and "Instruction Set").
-use Rattle.std.specs.Prelude.{ℕ, zero, suc, ◌+◌, ◌-◌, ◌==◌, nat_lt, nat_le, Bool, true, false, not, ◌&&◌, ◌||◌, if◌then◌else◌, List, [], ◌∷◌, length, take, drop, slice_index, Option, Some, None}
+use Rattle.std.specs.Prelude.{◌≡◌, ◌<◌, ◌≤◌, ℕ, zero, suc, ◌+◌, ◌-◌, ◌==◌, nat_lt, nat_le, Bool, true, false, not, ◌&&◌, ◌||◌, if◌then◌else◌, List, [], ◌∷◌, length, take, drop, slice_index, Option, Some, None}
 use Rattle.std.specs.List.{prefix_len}
 use Rattle.mips_text.specs.declared.reason.AsmWhy.{AsmWhy}
 use Rattle.mips_text.specs.declared.reason.AsmWhy.TheVariants.{Unknown, Operand}
@@ -74,6 +74,22 @@ start_of text =
     else if (slice_index text 0 == 36) && is_digit (slice_index text 1) then Begins Name (1 + prefix_len is_digit (drop 1 text))
     else Refused Unknown
 
+-- a token that begins a text of so many bytes has one of them at least, and no more than there are
+abbrev pub Spans : Start → ℕ → Type 0
+Spans Blank room = Unit {0}
+Spans Comment room = Unit {0}
+Spans (Begins kind size) room = (0 < size) × (size ≤ room)
+Spans (Refused why) room = Unit {0}
+
+-- Tokens in the order of their line, none of which is empty, between two places of it.
+abbrev pub InOrder : ℕ → List Token → ℕ → Type 0
+InOrder from [] to = from ≤ to
+InOrder from (token ∷ more) to = (from ≤ token.from) × (token.from < token.to) × InOrder token.to more to
+
+-- a token is some bytes of a line that has so many
+abbrev pub IsWithin : ℕ → Token → Type 0
+IsWithin room token = (token.from < token.to) × (token.to ≤ room)
+
 -- A line cut into tokens: those up to its end or up to a refusal, and the refusal where there is one.
 pub record Cut : Type 0 where
   pub tokens : List Token
@@ -113,6 +129,12 @@ without_return line = if slice_index line (length line - 1) == 13 then take (len
 -- at most so many tokens: one more is refused
 abbrev pub at_most : ℕ → Cut → Cut
 at_most most cut = if nat_lt most (length cut.tokens) then record { tokens = take most cut.tokens; refusal = Some Operand } else cut
+
+-- a line, without a carriage return at its end, has these tokens and this refusal
+pub record Ends (line : List ℕ) (tokens : List Token) (refusal : Option AsmWhy) : Type 0 where
+  pub tokens_are : tokens ≡ (at_most 64 (cut_from 0 0 line)).tokens
+  pub refusal_is : refusal ≡ (at_most 64 (cut_from 0 0 line)).refusal
+  pub in_order : InOrder 0 tokens (length line)
 
 -- The tokens of a line, which has no newline. The carriage return at its end is dropped here, and nowhere else.
 unfoldable pub tokens_of : List ℕ → Cut

@@ -1,6 +1,6 @@
 -- What the numbers and texts of a source stand for, and how numbers are printed.
 -- Source: the assembler language of this project; the printed formats are those that Rust's std writes for {} and {:#x}.
-use Rattle.std.specs.Prelude.{ℕ, ℤ, pos, neg_ℤ, zero, suc, ◌+◌, ◌-◌, ◌*◌, ◌^◌, ◌==◌, nat_lt, nat_le, Bool, true, false, if◌then◌else◌, List, [], ◌∷◌, ◌++◌, map, length, take, drop, slice_index, Option, Some, None, codes}
+use Rattle.std.specs.Prelude.{ℕ, ℤ, pos, neg_ℤ, nat_abs, zero, suc, ◌+◌, ◌-◌, ◌*◌, ◌^◌, ◌==◌, nat_lt, nat_le, Bool, true, false, if◌then◌else◌, List, [], ◌∷◌, ◌++◌, map, length, take, drop, slice_index, Option, Some, None, codes}
 use Rattle.std.specs.Int.Digits.{digits_of}
 use Rattle.r4_words.specs.Texts.{dec_of, digit_of}
 use Rattle.mips_text.specs.Tokens.{is_hexadecimal}
@@ -21,6 +21,15 @@ magnitude_of text = if is_hexadecimal text then number_after 16 0 (drop 2 text) 
 -- the number of a Number token's text
 unfoldable pub number_of : List ℕ → ℤ
 number_of text = if slice_index text 0 == 45 then neg_ℤ (pos (magnitude_of (drop 1 text))) else pos (magnitude_of text)
+
+-- a number below 2 ^ 32
+abbrev pub small : ℕ → Option ℕ
+small n = if nat_lt n (2 ^ 32) then Some n else None
+
+-- A number whose magnitude is below 2 ^ 32. Every number that a statement takes is one; but for `.align`, another number
+-- is out of range at any place.
+abbrev pub bounded : ℤ → Option ℤ
+bounded n = if nat_lt (nat_abs n) (2 ^ 32) then Some n else None
 
 -- what stands for the byte after a backslash: `\n`, `\0`, `\\` and `\"`
 abbrev pub escaped : ℕ → Option ℕ

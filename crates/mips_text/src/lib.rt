@@ -8,8 +8,17 @@
 //! Reading order: the reasons of a refusal, the kinds of tokens.
 #![tactic(auto)]
 
+mod lexing;
+mod names;
+mod printing;
+mod reading;
 mod reason;
 mod token;
+mod writing;
 
+
+pub use lexing::tokens;
+pub use printing::print_inst;
+pub use reading::{cp0_register_of, escaped, number_of, register_of};
 pub use reason::AsmWhy;
 pub use token::{Token, TokenKind};

@@ -1,0 +1,5 @@
+pub mod Cutting
+pub mod Digits
+pub mod RowNames
+pub mod Naming
+pub mod Numbers
