@@ -1,2 +1,5 @@
 mod Examples
 pub mod LabelList
+pub mod TextList
+pub mod LineList
+pub mod PassList

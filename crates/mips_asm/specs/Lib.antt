@@ -3,3 +3,4 @@ pub mod Layout
 pub mod Assembly
 pub mod Shown
 pub mod LabelsOf
+pub mod PassesOf

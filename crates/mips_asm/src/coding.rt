@@ -1,6 +1,6 @@
 //! The bytes of statements.
 
-ghost use Rattle.std.specs.Prelude.{◌≡◌, ℕ, List, ◌<◌, ◌^◌, ◌++◌, OnOk};
+ghost use Rattle.std.specs.Prelude.{◌≡◌, ℕ, List, ◌<◌, ◌+◌, ◌^◌, ◌++◌, OnOk};
 ghost use Rattle.flat_ram.specs.Bytes.{bytes_of, zeros_of};
 ghost use Rattle.mips3_table.specs.Instructions.{IsInst};
 ghost use Rattle.mips_asm.specs.Assembly as law;
@@ -16,7 +16,7 @@ use std::alloc::AllocError;
 
 use crate::items::{Goal, Item};
 use crate::labels::Labels;
-use crate::layout::size_at;
+use crate::layout::padding;
 use crate::texts::put_text;
 
 
@@ -62,7 +62,7 @@ fn put_zeros(count: usize, bytes: &mut Vec<u8>) -> Result<(), AllocError>
 /// The number of 16 bits by which a branch at an address goes to a target, if it can.
 #[tactic(auto, unfolding(crate::specs::Assembly::distance_to))]
 fn distance_to(at: u64, target: u32) -> u32
-    requires { at < 2 ^ 63 }
+    requires { at < 2 ^ 63 + 2 ^ 33 }
     ensures value { result ≡ law.distance_to at target }
     ensures small { result < 2 ^ 16 }
 {
@@ -83,7 +83,7 @@ fn word_number(target: u32) -> u32
 /// Where a branch at an address goes by its number.
 #[tactic(auto, unfolding(mips_text::specs::Printed::branch_target))]
 fn branch_target(at: u64, distance: u32) -> u32
-    requires far { at < 2 ^ 63 }
+    requires far { at < 2 ^ 63 + 2 ^ 33 }
     requires small { distance < 2 ^ 16 }
     ensures { result ≡ printed.branch_target at distance }
 {
@@ -94,7 +94,7 @@ fn branch_target(at: u64, distance: u32) -> u32
 /// Where a jump at an address goes by its number.
 #[tactic(auto, unfolding(mips_text::specs::Printed::jump_target))]
 fn jump_target(at: u64, number: u32) -> u32
-    requires far { at < 2 ^ 63 }
+    requires far { at < 2 ^ 63 + 2 ^ 33 }
     requires small { number < 2 ^ 26 }
     ensures { result ≡ printed.jump_target at number }
 {
@@ -104,7 +104,7 @@ fn jump_target(at: u64, number: u32) -> u32
 /// The word of a branch at an address to a target that it reaches.
 #[tactic(auto, unfolding(crate::specs::Assembly::branch_to))]
 fn branch_to(inst: &Inst, at: u64, target: u32) -> Option<u32>
-    requires far { at < 2 ^ 63 }
+    requires far { at < 2 ^ 63 + 2 ^ 33 }
     requires sound { (number : ℕ) → number < 2 ^ 16 → IsInst (record inst.now { imm = number }) }
     ensures { word_shown result ≡ law.branch_to inst.now at target }
 {
@@ -119,7 +119,7 @@ fn branch_to(inst: &Inst, at: u64, target: u32) -> Option<u32>
 /// The word of a jump at an address to a target that it reaches.
 #[tactic(auto, unfolding(crate::specs::Assembly::jump_to))]
 fn jump_to(inst: &Inst, at: u64, target: u32) -> Option<u32>
-    requires far { at < 2 ^ 63 }
+    requires far { at < 2 ^ 63 + 2 ^ 33 }
     requires sound { (number : ℕ) → number < 2 ^ 26 → IsInst (record inst.now { imm = number }) }
     ensures { word_shown result ≡ law.jump_to inst.now at target }
 {
@@ -184,7 +184,7 @@ fn put_branch(
     goal: Goal,
     bytes: &mut Vec<u8>,
 ) -> Result<(), Stop>
-    requires far { at < 2 ^ 63 }
+    requires far { at < 2 ^ 63 + 2 ^ 33 }
     requires sound { (number : ℕ) → number < 2 ^ 16 → IsInst (record inst.now { imm = number }) }
     ensures { IsCoded (law.where_known (law.address_of labels.now (target_shown goal.entry)) (law.branch_to inst.now at)) result bytes.old.items bytes.new.items }
 {
@@ -206,7 +206,7 @@ fn put_jump(
     goal: Goal,
     bytes: &mut Vec<u8>,
 ) -> Result<(), Stop>
-    requires far { at < 2 ^ 63 }
+    requires far { at < 2 ^ 63 + 2 ^ 33 }
     requires sound { (number : ℕ) → number < 2 ^ 26 → IsInst (record inst.now { imm = number }) }
     ensures { IsCoded (law.where_known (law.address_of labels.now (target_shown goal.entry)) (law.jump_to inst.now at)) result bytes.old.items bytes.new.items }
 {
@@ -251,7 +251,10 @@ fn put_plain(at: u64, item: &Item, bytes: &mut Vec<u8>) -> Result<(), AllocError
         Item::Bytes(list) => bytes.extend_from_slice(list),
         Item::Text(text) => put_text(text, bytes),
         Item::Zeros(count) => put_zeros(*count as usize, bytes),
-        _ => put_zeros(size_at(at, item) as usize, bytes),
+        Item::Origin(origin) => put_zeros(u64::from(*origin).saturating_sub(at) as usize, bytes),
+        Item::Aligned(Some(power)) => put_zeros(padding(*power, at) as usize, bytes),
+        Item::Aligned(None) => put_zeros(0, bytes),
+        Item::BranchTo(..) | Item::JumpTo(..) | Item::LoadLabel(..) => unreachable!(),
     }
 }
 
@@ -263,7 +266,7 @@ pub fn put_item(
     item: &Item,
     bytes: &mut Vec<u8>,
 ) -> Result<(), Stop>
-    requires far { at < 2 ^ 63 }
+    requires far { at < 2 ^ 63 + 2 ^ 33 }
     requires sound { IsSound item.now }
     ensures { IsCoded (law.coded_at labels.now at (item_shown item.now)) result bytes.old.items bytes.new.items }
 {

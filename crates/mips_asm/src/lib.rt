@@ -6,8 +6,15 @@
 //! Reading order: what a line says, the labels, the layout, the bytes of statements.
 #![tactic(auto)]
 
+mod built;
 mod coding;
 mod items;
 mod labels;
 mod layout;
+mod passes;
+mod reading;
+mod sources;
 mod texts;
+
+pub use built::{AsmFault, Built};
+pub use passes::assemble;

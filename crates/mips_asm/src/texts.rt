@@ -3,6 +3,7 @@
 ghost use Rattle.std.specs.Prelude.{◌≡◌, ◌-◌, ◌++◌, [], IsSome, OnOk, length, take, drop, false, option_map, unwrap_or};
 ghost use Rattle.mips_text.specs.Values as law;
 
+use mips_text::escaped;
 use std::alloc::AllocError;
 
 /// A text without its quotes.
@@ -12,20 +13,8 @@ fn inside(text: &[u8]) -> &[u8]
     if text.len() < 2 { &[] } else { &text[1..text.len() - 1] }
 }
 
-/// What stands for the byte after a backslash.
-fn escaped(code: u8) -> Option<u8>
-    ensures { result ≡ law.escaped code }
-{
-    match code {
-        b'n' => Some(b'\n'),
-        b'0' => Some(0),
-        b'\\' => Some(b'\\'),
-        b'"' => Some(b'"'),
-        _ => None,
-    }
-}
-
 /// How many bytes the inside of a text stands for.
+#[tactic(auto, using(crate::proofs::TextList::length_nothing, crate::proofs::TextList::length_escape, crate::proofs::TextList::length_no_escape, crate::proofs::TextList::length_backslash, crate::proofs::TextList::length_byte, crate::proofs::TextList::length_end))]
 fn inner_length(inner: &[u8]) -> Option<usize>
     ensures { result ≡ option_map length (law.unescaped false inner.now) }
 {
@@ -54,6 +43,7 @@ pub fn text_length(text: &[u8]) -> Option<usize>
 }
 
 /// Appends the bytes that the inside of a text stands for.
+#[tactic(auto, using(crate::proofs::TextList::append_escape, crate::proofs::TextList::append_no_escape, crate::proofs::TextList::append_backslash, crate::proofs::TextList::append_byte, crate::proofs::TextList::append_end))]
 fn put_inner(inner: &[u8], bytes: &mut Vec<u8>) -> Result<(), AllocError>
     requires { IsSome (law.unescaped false inner.now) }
     ensures { OnOk result (bytes.new.items ≡ bytes.old.items ++ unwrap_or (law.unescaped false inner.now) []) }

@@ -1,9 +1,9 @@
-use Rattle.std.proofs.Common.{◌≡◌, ◌+◌, ◌≤◌, false, length, drop}
-use Rattle.std.specs.Prelude.{option_map}
+use Rattle.std.proofs.Common.{◌≡◌, ◌≤◌, false, drop}
 use Rattle.mips_text.specs.Values.{unescaped}
+use Rattle.mips_asm.proofs.TextList.{lengthened}
 use Rattle.mips_asm.proofs.texts.inner_length.Given as goal
 
 abbrev pub invariant-loop-code : goal.invariant-loop-code
 invariant-loop-code l =
-    (option_map (λ rest. l.count + length rest) (unescaped l.taken (drop l.code-index l.inner)) ≡ option_map length (unescaped false l.inner))
+    (lengthened l.count (unescaped l.taken (drop l.code-index l.inner)) ≡ lengthened 0 (unescaped false l.inner))
     × (l.count ≤ l.code-index)
