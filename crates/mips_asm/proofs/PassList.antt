@@ -1,5 +1,5 @@
 -- The base and the two passes, a line at a time; and a statement has as many bytes as its size says.
-use Rattle.std.proofs.Common.{◌≡◌, ◌+◌, ◌-◌, ◌*◌, ◌==◌, ℕ, zero, suc, Bool, true, false, List, [], ◌∷◌, ◌++◌, Option, Some, None, length, cond, refl, ap, sym, ◌∙◌, arith, append_assoc, length-append, subst}
+use Rattle.std.proofs.Common.{◌≡◌, ◌+◌, ◌-◌, ◌*◌, ◌==◌, ℕ, zero, suc, Bool, true, false, List, [], ◌∷◌, ◌++◌, Option, Some, None, length, cond, refl, ap, sym, ◌∙◌, arith, append_assoc, length-append, append-nil, subst, Ok, Err}
 use Rattle.std.proofs.lemmas.Grind.{common_steps}
 use Rattle.std.proofs.lemmas.List.{length-replicate}
 use Rattle.std.specs.Prelude.{unwrap_or}
@@ -10,8 +10,10 @@ use Rattle.mips_text.specs.declared.reason.AsmWhy.{AsmWhy}
 use Rattle.mips_text.specs.declared.reason.AsmWhy.TheVariants as why
 use Rattle.mips_text.specs.Printed.{branch_target, jump_target}
 use Rattle.mips_asm.specs.Line.{Item, Plain, BranchTo, JumpTo, LoadNumber, LoadLabel, Words, Bytes, Zeros, Origin, Aligned, Line, Reading, Read, Refused, read_line}
-use Rattle.mips_asm.specs.Layout.{Place, base_by, base_of, usual_base, size_at, size_of, padding_to, place_after, fault_at, label_at}
+use Rattle.mips_asm.specs.Layout.{Place, base_by, base_of, usual_base, size_at, size_of, padding_to, lines_of, place_after, fault_at, label_at}
 use Rattle.mips_asm.specs.Assembly.{Coded, Given, Lacking, address_of, where_known, branch_to, jump_to, distance_to, word_number, loading, bytes_of_words, coded_at, coded_of, FirstPass, Laid, Stopped, pass_on, pass_line, first_pass, SecondPass, Filled, Missing, with_bytes, fill_line, item_read, second_pass}
+use Rattle.mips_asm.specs.declared.coding.Stop.TheVariants.{Lacks}
+use Rattle.mips_asm.specs.PassesOf.{IsLaid, place_at}
 
 -- THE BASE
 
@@ -134,3 +136,31 @@ second_pass_more labels base number line lines front bytes is =
     ap (with_bytes front) (one_filled labels number at line lines ∙ ap (λ coded. fill_line number coded (second_pass labels (number + 1) (at + size_of at item) lines)) is)
     ∙ joined front bytes (second_pass labels (number + 1) (at + size_of at item) lines)
     ∙ ap (λ address. with_bytes (front ++ bytes) (second_pass labels (number + 1) address lines)) next
+
+-- THE END OF A SOURCE
+
+no_lines : (source : List ℕ) → length source ≡ 0 → lines_of source ≡ []
+no_lines [] none = refl
+no_lines (code ∷ rest) none = absurd (omega arith)
+
+pub base_of_end : (source : List ℕ) → length source ≡ 0 → base_of (lines_of source) ≡ usual_base
+base_of_end source none = ap base_of (no_lines source none) ∙ base_of_nothing
+
+pub first_pass_end : (base number : ℕ) (place : Place) (source : List ℕ) → length source ≡ 0 → first_pass base number place (lines_of source) ≡ Laid place.labels
+first_pass_end base number place source none = ap (first_pass base number place) (no_lines source none) ∙ first_pass_nothing base number place
+
+pub second_pass_end : (labels : List (List ℕ × ℕ)) (number address : ℕ) (front source : List ℕ) → length source ≡ 0 → with_bytes front (second_pass labels number address (lines_of source)) ≡ Filled front
+second_pass_end labels number address front source none =
+    ap (λ lines. with_bytes front (second_pass labels number address lines)) (no_lines source none)
+    ∙ ap (with_bytes front) (second_pass_nothing labels number address)
+    ∙ ap Filled (append-nil front)
+
+-- THE CALLS
+
+pub laid_on : (fault : Option AsmWhy) (place : Place) (next : ℕ) (labels : List (List ℕ × ℕ)) → IsLaid fault place (Ok next) labels → (fault ≡ None) × (place ≡ place_at next labels)
+laid_on None place next labels is = (refl , is)
+laid_on (Some reason) place next labels is = absurd is
+
+pub stopped_at : (fault : Option AsmWhy) (place : Place) (reason : AsmWhy) (labels : List (List ℕ × ℕ)) → IsLaid fault place (Err (Lacks reason)) labels → fault ≡ Some reason
+stopped_at None place reason labels is = absurd is
+stopped_at (Some found) place reason labels is = ap Some is

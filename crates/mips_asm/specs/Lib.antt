@@ -4,3 +4,4 @@ pub mod Assembly
 pub mod Shown
 pub mod LabelsOf
 pub mod PassesOf
+pub mod StatementsOf

@@ -13,7 +13,9 @@ mod labels;
 mod layout;
 mod passes;
 mod reading;
+mod slots;
 mod sources;
+mod statements;
 mod texts;
 
 pub use built::{AsmFault, Built};

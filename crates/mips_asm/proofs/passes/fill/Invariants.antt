@@ -7,6 +7,7 @@ abbrev pub invariant-loop-rest : goal.invariant-loop-rest
 invariant-loop-rest l =
     (with_bytes l.bytes.items (second_pass l.labels l.number (l.base + length l.bytes.items) (lines_of l.rest)) ≡ second_pass l.labels 1 l.base (lines_of l.source))
     × (l.number + length l.rest ≤ 1 + length l.source)
+    × (1 ≤ l.number)
 
 abbrev pub decreases-loop-rest : goal.decreases-loop-rest
 decreases-loop-rest l = length l.rest

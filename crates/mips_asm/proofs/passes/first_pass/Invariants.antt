@@ -8,6 +8,7 @@ abbrev pub invariant-loop-rest : goal.invariant-loop-rest
 invariant-loop-rest l =
     (first_pass l.base l.number (place_at l.address l.labels) (lines_of l.rest) ≡ first_pass l.base 1 (place_at l.base []) (lines_of l.source))
     × (l.number + length l.rest ≤ 1 + length l.source)
+    × (1 ≤ l.number)
     × (l.base ≤ l.address)
     × (l.address ≤ l.base + 8388608)
 

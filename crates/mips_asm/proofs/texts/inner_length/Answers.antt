@@ -14,4 +14,4 @@ loop-code-preserved c =
     | else-taken+then-code-eq92 w ↦
         (rw (w.count-is, w.taken-is) (sym (length_backslash count at inner (omega arith) w.if-code-eq92.true) ∙ (rw w.if-taken.false at c.loop-code.invariant.0)) , omega arith)
     | else-taken+else-code-eq92 w ↦
-        (rw (w.count-is, w.taken-is) (sym (length_byte count at inner (omega arith) w.if-code-eq92.false) ∙ (rw w.if-taken.false at c.loop-code.invariant.0)) , omega arith) ]
+        (rw (w.count-is, w.taken-is, w.if-taken.false) (sym (length_byte count at inner (omega arith) w.if-code-eq92.false) ∙ (rw w.if-taken.false at c.loop-code.invariant.0)) , omega arith) ]
