@@ -1,9 +1,8 @@
 -- How a line is cut, token by token.
-use Rattle.std.proofs.Common.{◌≡◌, ◌<◌, ◌≤◌, ◌+◌, ◌-◌, ◌==◌, ℕ, zero, suc, Bool, true, false, List, [], ◌∷◌, ◌++◌, length, drop, take, slice_index, Option, Some, None, refl, ap, sym, ◌∙◌, subst, arith, length-drop, get_or, cond, IfSome, nat_lt, append_assoc, append-nil, length-append, slice_index_or, ◌||◌, ◌&&◌, if◌then◌else◌, Fits}
+use Rattle.std.proofs.Common.{◌≡◌, ◌<◌, ◌≤◌, ◌+◌, ◌-◌, ◌==◌, ℕ, zero, suc, Bool, true, false, List, [], ◌∷◌, ◌++◌, length, drop, take, slice_index, Option, Some, None, refl, ap, sym, ◌∙◌, subst, arith, length-drop, get_or, cond, IfSome, nat_lt, append_assoc, append-nil, length-append, slice_index_or, ◌||◌, ◌&&◌, if◌then◌else◌}
 use Rattle.std.proofs.lemmas.Grind.{common_steps}
 use Rattle.std.proofs.lemmas.List.{drop-drop}
 use Rattle.std.proofs.lemmas.List.Sums.{prefix_len-le-length}
-use Rattle.std.proofs.lemmas.Bool.{eqb-false, eqb-true, eq-eqb, cases_Bool}
 use Rattle.std.proofs.Math.ListN.{drop_of_length-le}
 use Rattle.std.proofs.Math.Seq.{take-append_seam}
 use Rattle.std.specs.List.{prefix_len, All}
@@ -11,7 +10,7 @@ use Rattle.mips_text.specs.declared.reason.AsmWhy.{AsmWhy}
 use Rattle.mips_text.specs.declared.reason.AsmWhy.TheVariants.{Operand, Unknown}
 use Rattle.mips_text.specs.declared.token.Token.{Token}
 use Rattle.mips_text.specs.declared.token.TokenKind.{TokenKind}
-use Rattle.mips_text.specs.declared.token.TokenKind.TheVariants.{Name, Number, Text, Mark}
+use Rattle.mips_text.specs.declared.token.TokenKind.TheVariants.{Name, Number, Mark}
 use Rattle.mips_text.specs.declared.token.Start.{Start}
 use Rattle.mips_text.specs.declared.token.Start.TheVariants.{Blank, Comment, Begins, Refused}
 use Rattle.mips_text.specs.Tokens.{Cut, whole, refused, before, token_at, cut_by, cut_from, start_of, one_more, quoted_length, quoted, number_length, is_hexadecimal, is_digit, is_hex_digit, is_name_start, is_name_byte, is_blank, is_mark, Spans, InOrder, IsWithin, at_most, Ends}
@@ -239,7 +238,7 @@ stands_blank line tokens at so_far within is =
       within = omega arith;
       tokens_are = ap (λ cut. tokens ++ cut.tokens) (sym step) ∙ so_far.tokens_are;
       refusal_is = ap (λ cut. cut.refusal) (sym step) ∙ so_far.refusal_is;
-      in_order = in_order_widened 0 tokens at (at + 1) so_far.in_order (omega arith)
+      in_order = in_order_widened 0 tokens at (at + 1) so_far.in_order (omega arith);
     }
 
 pub stands_token : (line : List ℕ) (tokens : List Token) (at size : ℕ) (kind : TokenKind) → Stands line tokens at → at < length line → start_of (drop at line) ≡ Begins kind size →
@@ -253,7 +252,7 @@ stands_token line tokens at size kind so_far within is spans =
       within = fits;
       tokens_are = append_assoc tokens (token_at kind at size ∷ []) (cut_from 0 (at + size) (drop (at + size) line)).tokens ∙ ap (λ cut. tokens ++ cut.tokens) (sym step) ∙ so_far.tokens_are;
       refusal_is = ap (λ cut. cut.refusal) (sym step) ∙ so_far.refusal_is;
-      in_order = in_order_pushed 0 tokens at (token_at kind at size) (at + size) so_far.in_order (omega arith) (omega arith) (omega arith)
+      in_order = in_order_pushed 0 tokens at (token_at kind at size) (at + size) so_far.in_order (omega arith) (omega arith) (omega arith);
     }
 
 -- a cut of a line that comes to an end with these tokens and this refusal
@@ -265,7 +264,7 @@ ends_with line tokens at why so_far few is =
     record {
       tokens_are = sym (ap (λ cut. cut.tokens) same ∙ all);
       refusal_is = sym (ap (λ cut. cut.refusal) same ∙ sym so_far.refusal_is ∙ ap (λ cut. cut.refusal) is);
-      in_order = in_order_widened 0 tokens at (length line) so_far.in_order so_far.within
+      in_order = in_order_widened 0 tokens at (length line) so_far.in_order so_far.within;
     }
 
 pub ends_line : (line : List ℕ) (tokens : List Token) (at : ℕ) → Stands line tokens at → length tokens ≤ 64 → length line ≤ at → Ends line tokens None
@@ -290,7 +289,7 @@ ends_full line tokens at size kind so_far full within is spans =
     record {
       tokens_are = sym (ap (λ cut. cut.tokens) same ∙ ap (take 64) all ∙ first);
       refusal_is = sym (ap (λ cut. cut.refusal) same);
-      in_order = in_order_widened 0 tokens at (length line) so_far.in_order so_far.within
+      in_order = in_order_widened 0 tokens at (length line) so_far.in_order so_far.within;
     }
 
 in_order_le : (from : ℕ) (tokens : List Token) (to : ℕ) → InOrder from tokens to → from ≤ to

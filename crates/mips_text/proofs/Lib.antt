@@ -3,3 +3,4 @@ pub mod Digits
 pub mod RowNames
 pub mod Naming
 pub mod Numbers
+pub mod Escapes

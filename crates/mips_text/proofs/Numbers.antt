@@ -1,5 +1,5 @@
 -- Numbers as texts have them, and those that are too large.
-use Rattle.std.proofs.Common.{◌≡◌, ◌<◌, ◌≤◌, ◌+◌, ◌*◌, ◌^◌, ℕ, ℤ, pos, neg_ℤ, nat_abs, zero, suc, Bool, true, false, if◌then◌else◌, List, [], ◌∷◌, length, drop, get_or, Option, Some, None, nat_lt, refl, ap, sym, ◌∙◌, arith}
+use Rattle.std.proofs.Common.{◌≡◌, ◌<◌, ◌≤◌, ◌+◌, ◌*◌, ◌^◌, ℕ, pos, neg_ℤ, nat_abs, zero, suc, true, false, if◌then◌else◌, List, [], ◌∷◌, length, drop, get_or, Some, None, nat_lt, refl, ap, sym, ◌∙◌, arith}
 use Rattle.std.proofs.Math.Nat.{mul-le-mul_left}
 use Rattle.std.proofs.lemmas.Grind.{common_steps}
 use Rattle.mips_text.specs.Values.{number_after, value_of_digit, small, bounded}

@@ -1,7 +1,7 @@
 -- The names of the rows are short.
-use Rattle.std.proofs.Common.{◌≡◌, ◌<◌, ◌≤◌, ℕ, Bool, true, List, length, nat_le, refl, arith, leb-true}
+use Rattle.std.proofs.Common.{◌≡◌, ◌<◌, ◌≤◌, ℕ, Bool, true, length, nat_le, refl, leb-true}
 use Rattle.std.specs.List.{list_all}
-use Rattle.mips3_table.specs.Rows.{Row, rows, row_at, no_row}
+use Rattle.mips3_table.specs.Rows.{Row, rows, row_at}
 use Rattle.mips3_table.proofs.Apart.{each_at, rows_count}
 
 abbrev is_short : Row → Bool

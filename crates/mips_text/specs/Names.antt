@@ -1,7 +1,7 @@
 -- The names of registers in assembler text.
 -- Source: MIPS R4000 Microprocessor User's Manual, 2nd edition (Heinrich), chapter 4, "CP0 Registers", for the names of
 -- the registers of coprocessor 0; System V ABI, MIPS supplement, "Registers", for those of the general registers.
-use Rattle.std.specs.Prelude.{ℕ, ◌==◌, nat_lt, Bool, if◌then◌else◌, List, [], ◌∷◌, drop, slice_index, slice_index_or, Option, Some, None, codes, bytes_eq, position}
+use Rattle.std.specs.Prelude.{ℕ, ◌==◌, nat_lt, if◌then◌else◌, List, [], ◌∷◌, drop, slice_index, slice_index_or, Option, Some, None, codes, bytes_eq, position}
 use Rattle.r4_words.specs.Texts.{read_dec}
 
 -- the names of the general registers 0 to 31

@@ -1,6 +1,6 @@
 -- What the numbers and texts of a source stand for, and how numbers are printed.
 -- Source: the assembler language of this project; the printed formats are those that Rust's std writes for {} and {:#x}.
-use Rattle.std.specs.Prelude.{ℕ, ℤ, pos, neg_ℤ, nat_abs, zero, suc, ◌+◌, ◌-◌, ◌*◌, ◌^◌, ◌==◌, nat_lt, nat_le, Bool, true, false, if◌then◌else◌, List, [], ◌∷◌, ◌++◌, map, length, take, drop, slice_index, Option, Some, None, codes}
+use Rattle.std.specs.Prelude.{◌≡◌, ◌<◌, ◌≤◌, ℕ, ℤ, pos, neg_ℤ, nat_abs, zero, suc, ◌+◌, ◌-◌, ◌*◌, ◌^◌, ◌==◌, nat_lt, nat_le, Bool, true, false, if◌then◌else◌, List, [], ◌∷◌, ◌++◌, map, length, take, drop, slice_index, Option, Some, None, codes}
 use Rattle.std.specs.Int.Digits.{digits_of}
 use Rattle.r4_words.specs.Texts.{dec_of, digit_of}
 use Rattle.mips_text.specs.Tokens.{is_hexadecimal}
@@ -48,9 +48,19 @@ unescaped false [] = Some []
 unescaped true (code ∷ rest) = with_byte (escaped code) (unescaped false rest)
 unescaped false (code ∷ rest) = if code == 92 then unescaped true rest else with_byte (Some code) (unescaped false rest)
 
+-- what stands between the quotes of a text that has both
+abbrev pub inside : List ℕ → List ℕ
+inside text = take (length text - 2) (drop 1 text)
+
 -- the bytes of a Text token, whose text has the two quotes
 unfoldable pub bytes_of_text : List ℕ → Option (List ℕ)
-bytes_of_text text = unescaped false (take (length text - 2) (drop 1 text))
+bytes_of_text text = unescaped false (inside text)
+
+-- the inside of a text stands for this byte, which so many of its bytes say, and for what the rest of it stands for
+pub record BeginsWith (text : List ℕ) (byte used : ℕ) : Type 0 where
+  pub stands_for : unescaped false text ≡ with_byte (Some byte) (unescaped false (drop used text))
+  pub some : 0 < used
+  pub within : used ≤ length text
 
 -- hexadecimal digits in lower case, the high one first and none of them a leading zero; "0" for 0
 unfoldable pub hex_digits_of : ℕ → List ℕ

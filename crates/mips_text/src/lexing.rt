@@ -35,7 +35,9 @@ fn digits(text: &[u8]) -> usize
     ensures value { result ≡ prefix_len spec.is_digit text.now }
     ensures within { result ≤ length text.now }
 {
-    text.iter().take_while(|code| matches!(**code, b'0'..=b'9')).count()
+    text.iter()
+        .take_while(|code| matches!(**code, b'0'..=b'9'))
+        .count()
 }
 
 #[tactic(auto, using(crate::proofs::Cutting::run_within))]

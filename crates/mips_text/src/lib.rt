@@ -1,11 +1,12 @@
 //! The assembler's text of one line: its tokens, what they stand for, and the printed text of an instruction.
 //!
-//! `tokens` cuts a line into names, numbers, texts and marks. `register_of`, `cp0_register_of` and `number_of` say
-//! what a name or a number stands for. `print_inst` prints an instruction of `mips3_table` as a statement. The forms
-//! of operands are defined once, in `specs/Forms.antt`: as the texts that are printed, and as the tokens that a
-//! statement is read from.
+//! `tokens` cuts a line into names, numbers, texts and marks. `row_named`, `register_of`, `cp0_register_of`,
+//! `number_of`, `text_size` and `push_text` say what a token stands for. `print_inst` prints an instruction of
+//! `mips3_table` as a statement. The operands of each form are listed once, in `specs/Forms.antt`, and give both the
+//! texts that are printed and the tokens that a statement is read from.
 //!
-//! Reading order: the reasons of a refusal, the kinds of tokens.
+//! Reading order: the reasons of a refusal, the kinds of tokens, a line cut into tokens; the names of registers, what
+//! names, numbers and texts stand for; the text of each kind of operand, the text of an instruction.
 #![tactic(auto)]
 
 mod lexing;
@@ -13,12 +14,16 @@ mod names;
 mod printing;
 mod reading;
 mod reason;
+mod texts;
 mod token;
 mod writing;
 
-
 pub use lexing::tokens;
 pub use printing::print_inst;
-pub use reading::{cp0_register_of, escaped, number_of, register_of};
+pub use reading::{cp0_register_of, number_of, register_of, row_named};
 pub use reason::AsmWhy;
+pub use texts::{push_text, text_size};
 pub use token::{Token, TokenKind};
+
+#[cfg(test)]
+mod tests;

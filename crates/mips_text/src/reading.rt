@@ -1,11 +1,13 @@
 //! What a name or a number of a source stands for.
 
 ghost use Rattle.std.specs.Prelude.{◌≡◌, ◌<◌, ◌≤◌, ◌+◌, ◌*◌, ◌^◌, length, bytes_eq, position};
+ghost use Rattle.mips_text.specs.Forms as forms;
 ghost use Rattle.mips_text.specs.Names as names;
 ghost use Rattle.mips_text.specs.Values as values;
 
 use crate::lexing::{byte_at, is_hexadecimal, rest_from};
 use crate::names::{cp0_name, register_name};
+use mips3_table::name_of;
 use r4_words::read_dec;
 
 /// Whether a text is this name.
@@ -80,6 +82,21 @@ pub fn cp0_register_of(text: &[u8]) -> Option<u8>
     }
 }
 
+/// The row of the instruction table that has this name.
+#[tactic(auto, unfolding(crate::specs::Forms::row_named))]
+pub fn row_named(name: &[u8]) -> Option<u8>
+    ensures { result ≡ forms.row_named name.now }
+{
+    for row in 0..129 {
+        let of_row = name_of(row);
+        let is_it = reads(name, of_row);
+        if is_it {
+            return Some(row);
+        }
+    }
+    None
+}
+
 /// What a digit stands for: 0-9, A-F or a-f.
 fn value_of_digit(code: u8) -> u8
     ensures { result ≡ values.value_of_digit code }
@@ -145,17 +162,5 @@ pub fn number_of(text: &[u8]) -> Option<i64>
             Some(magnitude) => Some(i64::from(magnitude)),
             None => None,
         }
-    }
-}
-
-/// The byte that a backslash before this one stands for: `\n`, `\0`, `\\` and `\"`.
-pub fn escaped(code: u8) -> Option<u8>
-    ensures { result ≡ values.escaped code }
-{
-    match code {
-        b'n' => Some(b'\n'),
-        b'0' => Some(0),
-        b'\\' | b'"' => Some(code),
-        _ => None,
     }
 }

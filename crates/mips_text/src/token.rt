@@ -2,10 +2,11 @@
 
 use crate::reason::AsmWhy;
 
-/// The kind of a token.
-#[derive(Clone, Copy, PartialEq, Eq, Debug)]
+/// The kind of a token. A default stands here, as in `Token`, for `ArrayVec::new`.
+#[derive(Clone, Copy, PartialEq, Eq, Debug, Default)]
 pub enum TokenKind {
     /// Letters, digits, `_` and `.`, not a digit first; or `$` and one or more digits.
+    #[default]
     Name,
     /// Decimal digits, or `0x` and hexadecimal digits of either case, with an optional `-` before.
     Number,
@@ -16,7 +17,7 @@ pub enum TokenKind {
 }
 
 /// A token of a line: the bytes `from..to` of it.
-#[derive(Clone, Copy, PartialEq, Eq, Debug)]
+#[derive(Clone, Copy, PartialEq, Eq, Debug, Default)]
 pub struct Token {
     /// What the token is.
     pub kind: TokenKind,

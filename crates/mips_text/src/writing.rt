@@ -90,7 +90,11 @@ fn branch_to(at: u32, distance: u32) -> u32
     requires { distance < 2 ^ 16 }
     ensures { result ≡ branch_target at distance }
 {
-    let words = if distance < 0x8000 { distance } else { distance + 0xffff0000 };
+    let words = if distance < 0x8000 {
+        distance
+    } else {
+        distance + 0xffff0000
+    };
     at.wrapping_add(4).wrapping_add(words.wrapping_mul(4))
 }
 

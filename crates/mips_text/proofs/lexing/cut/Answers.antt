@@ -1,6 +1,6 @@
-use Rattle.std.proofs.Common.{◌≡◌, ◌<◌, ◌≤◌, ◌+◌, ◌∙◌, ap, sym, subst, length, drop, arith}
+use Rattle.std.proofs.Common.{◌≡◌, ◌<◌, ◌≤◌, ◌+◌, ◌∙◌, ap, sym, subst, length, arith}
 use Rattle.std.proofs.lemmas.Grind.{common_steps}
-use Rattle.mips_text.specs.Tokens.{start_of, Spans}
+use Rattle.mips_text.specs.Tokens.{start_of}
 use Rattle.mips_text.proofs.Cutting.{Stands, stands_first, stands_blank, stands_token, ends_line, ends_comment, ends_refused, ends_full}
 use Rattle.mips_text.proofs.lexing.cut.Goals as goal
 

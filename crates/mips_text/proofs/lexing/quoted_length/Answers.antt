@@ -1,4 +1,3 @@
-use Rattle.std.proofs.Common.{◌≡◌, ◌<◌, ◌+◌, length}
 use Rattle.mips_text.proofs.Cutting.{quoted_goes_on, quoted_goes_by}
 use Rattle.mips_text.proofs.lexing.quoted_length.Goals as goal
 use Rattle.mips_text.proofs.lexing.quoted_length.Goals.{then-taken, else-taken+else-code-eq34}

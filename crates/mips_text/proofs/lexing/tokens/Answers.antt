@@ -1,4 +1,4 @@
-use Rattle.std.proofs.Common.{◌≡◌, ◌<◌, ◌≤◌, ◌∙◌, ap, sym, subst, length, drop, arith}
+use Rattle.std.proofs.Common.{◌∙◌, ap}
 use Rattle.mips_text.specs.Tokens.{tokens_of, cut_from, at_most}
 use Rattle.mips_text.proofs.Cutting.{in_order_widened, all_within}
 use Rattle.mips_text.proofs.lexing.tokens.Goals as goal

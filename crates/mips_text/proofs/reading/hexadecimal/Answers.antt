@@ -1,4 +1,4 @@
-use Rattle.std.proofs.Common.{◌≡◌, ◌<◌, ◌≤◌, ◌∙◌, sym, arith}
+use Rattle.std.proofs.Common.{sym, arith}
 use Rattle.mips_text.proofs.Numbers.{grown}
 use Rattle.mips_text.proofs.reading.hexadecimal.Goals as goal
 

@@ -1,5 +1,4 @@
-use Rattle.std.proofs.Common.{◌≡◌, ◌<◌, ◌∙◌, ℕ, ap, sym, bytes_eq, below_more, arith}
-use Rattle.mips_text.specs.Names.{cp0_name}
+use Rattle.std.proofs.Common.{◌∙◌, ap, sym, bytes_eq, below_more, arith}
 use Rattle.mips_text.proofs.Naming.{cp0_here, cp0_nowhere}
 use Rattle.mips_text.proofs.reading.named_cp0_register.Goals as goal
 

@@ -1,5 +1,4 @@
-use Rattle.std.proofs.Common.{◌≡◌, ◌<◌, ◌∙◌, ℕ, ap, sym, bytes_eq, below_more, arith}
-use Rattle.mips_text.specs.Names.{register_name}
+use Rattle.std.proofs.Common.{◌∙◌, ap, sym, bytes_eq, below_more, arith}
 use Rattle.mips_text.proofs.Naming.{register_here, register_nowhere}
 use Rattle.mips_text.proofs.reading.named_register.Goals as goal
 
