@@ -1,6 +1,6 @@
 mod Examples
 pub mod LabelList
-pub mod TextList
+pub mod Bounds
 pub mod LineList
 pub mod RowNames
 pub mod PassList

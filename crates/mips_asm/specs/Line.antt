@@ -3,11 +3,13 @@
 -- Source: the assembler language of this project, whose statements are the instruction formats of the MIPS R4000
 -- Microprocessor User's Manual, 2nd edition (Heinrich), appendix A, with a part of the further statements and of the
 -- directives of the MIPS assembler.
-use Rattle.std.specs.Prelude.{ℕ, ℤ, pos, negsuc, zero, suc, ◌+◌, ◌-◌, ◌/◌, ◌^◌, ◌==◌, nat_lt, nat_le, Bool, true, false, not, ◌&&◌, ◌||◌, if◌then◌else◌, List, [], ◌∷◌, length, slice_index, Option, Some, None, unwrap_or}
+use Rattle.std.specs.Prelude.{ℕ, ℤ, pos, negsuc, zero, suc, ◌+◌, ◌-◌, ◌/◌, ◌%◌, ◌^◌, ◌==◌, nat_lt, nat_le, Bool, true, false, not, ◌&&◌, ◌||◌, if◌then◌else◌, List, [], ◌∷◌, length, slice_index, slice_get, Option, Some, None, unwrap_or}
 use Rattle.mips3_table.specs.declared.instruction.Inst.{Inst}
 use Rattle.mips3_table.specs.declared.operand_forms.Form.{Form}
 use Rattle.mips3_table.specs.declared.operand_forms.Form.TheVariants as form
+use Rattle.mips3_table.specs.Operands.{Widths}
 use Rattle.mips3_table.specs.Rows.{row_at}
+use Rattle.mips3_table.specs.Instructions.{widths_at}
 use Rattle.mips_text.specs.declared.reason.AsmWhy.{AsmWhy}
 use Rattle.mips_text.specs.declared.reason.AsmWhy.TheVariants as why
 use Rattle.mips_text.specs.declared.token.Token.{Token}
@@ -15,7 +17,7 @@ use Rattle.mips_text.specs.declared.token.TokenKind.{TokenKind}
 use Rattle.mips_text.specs.declared.token.TokenKind.TheVariants.{Name, Number, Text, Mark}
 use Rattle.mips_text.specs.Tokens.{Cut, tokens_of}
 use Rattle.mips_text.specs.Names.{register_of, cp0_register_of}
-use Rattle.mips_text.specs.Values.{number_of, bytes_of_text}
+use Rattle.mips_text.specs.Values.{number_of, bounded, bytes_of_text}
 use Rattle.mips_text.specs.Forms.{Field, Rs, Rt, Rd, Sa, Imm, Range, Expected, ARegister, ACp0Register, ANumber, AMark, Shape, Tokens, Numbers, Statement, Instruction, Li, La, Move, Nop, Branch, Org, Word, Byte, Space, Align, Ascii, shape_of, statement_named, token_text, names_no_register, has_kind, has_range}
 
 -- Where a branch or a jump goes.
@@ -101,24 +103,35 @@ abbrev pub natural : ℤ → ℕ
 natural (pos n) = n
 natural (negsuc n) = 0
 
--- a number as so many bits, in two's complement where it is negative
-abbrev pub in_bits : ℕ → ℤ → ℕ
-in_bits width (pos n) = n
-in_bits width (negsuc n) = 2 ^ width - (n + 1)
+-- the number of a text that lies in a field; one of 2 ^ 32 or more lies in none, and counts as 0 here
+abbrev pub number_value : List ℕ → ℤ
+number_value text = unwrap_or (bounded (number_of text)) (pos 0)
 
+-- so many low bits of a number in two's complement
+abbrev pub in_bits : ℕ → ℤ → ℕ
+in_bits width (pos n) = n % 2 ^ width
+in_bits width (negsuc n) = 2 ^ width - 1 - n % 2 ^ width
+
+-- the register that a text names
+abbrev pub register_value : List ℕ → ℕ
+register_value text = unwrap_or (register_of text) 0 % 2 ^ 5
+
+abbrev pub cp0_register_value : List ℕ → ℕ
+cp0_register_value text = unwrap_or (cp0_register_of text) 0 % 2 ^ 5
+
+-- an instruction with another value in a field: the registers and sa have 5 bits
 abbrev pub with_field : Field → ℕ → Inst → Inst
-with_field Rs value inst = record inst { rs = value }
-with_field Rt value inst = record inst { rt = value }
-with_field Rd value inst = record inst { rd = value }
-with_field Sa value inst = record inst { sa = value }
+with_field Rs value inst = record inst { rs = value % 2 ^ 5 }
+with_field Rt value inst = record inst { rt = value % 2 ^ 5 }
+with_field Rd value inst = record inst { rd = value % 2 ^ 5 }
+with_field Sa value inst = record inst { sa = value % 2 ^ 5 }
 with_field Imm value inst = record inst { imm = value }
 
--- an instruction with the field that a token gives. Of the numbers of an instruction only those of 16 bits may be
--- negative. A target gives no field here.
+-- an instruction with the field that a token gives. A target gives no field here.
 abbrev pub with_operand : Expected → List ℕ → Inst → Inst
-with_operand (ARegister field) text inst = with_field field (unwrap_or (register_of text) 0) inst
-with_operand (ACp0Register field) text inst = with_field field (unwrap_or (cp0_register_of text) 0) inst
-with_operand (ANumber field range) text inst = with_field field (in_bits 16 (number_of text)) inst
+with_operand (ARegister field) text inst = with_field field (register_value text) inst
+with_operand (ACp0Register field) text inst = with_field field (cp0_register_value text) inst
+with_operand (ANumber field range) text inst = with_field field (in_bits 32 (number_value text)) inst
 with_operand expected text inst = inst
 
 abbrev pub with_operands : List ℕ → List Expected → List Token → Inst → Inst
@@ -126,6 +139,17 @@ with_operands line [] tokens inst = inst
 with_operands line (one ∷ expected) [] inst = inst
 with_operands line (one ∷ expected) (token ∷ tokens) inst =
     with_operands line expected tokens (with_operand one (token_text line token) inst)
+
+-- an instruction whose fields are the low bits that the widths leave
+abbrev pub fitted : Widths → Inst → Inst
+fitted w inst = record {
+  row = inst.row;
+  rs = inst.rs % 2 ^ w.rs;
+  rt = inst.rt % 2 ^ w.rt;
+  rd = inst.rd % 2 ^ w.rd;
+  sa = inst.sa % 2 ^ w.sa;
+  imm = inst.imm % 2 ^ w.number;
+}
 
 -- the instruction of a row with every field 0
 abbrev pub bare : ℕ → Inst
@@ -146,25 +170,30 @@ or_row = 91
 
 -- the instruction of a row with the operands of a statement
 abbrev pub inst_of : List ℕ → ℕ → Statement → List Token → Inst
-inst_of line row statement tokens = with_operands line (tokens_expected (shape_of statement) (length tokens)) tokens (bare row)
+inst_of line row statement tokens =
+    fitted (widths_at row) (with_operands line (tokens_expected (shape_of statement) (length tokens)) tokens (bare row))
 
 -- the text of the token at an index, and its target
+abbrev pub text_found : List ℕ → Option Token → List ℕ
+text_found line (Some token) = token_text line token
+text_found line None = []
+
 abbrev pub text_at : List ℕ → List Token → ℕ → List ℕ
-text_at line [] at = []
-text_at line (token ∷ tokens) zero = token_text line token
-text_at line (token ∷ tokens) (suc at) = text_at line tokens at
+text_at line tokens at = text_found line (slice_get tokens at)
 
 abbrev pub target_of : TokenKind → List ℕ → Target
 target_of Name text = Label text
-target_of kind text = Address (natural (number_of text))
+target_of kind text = Address (natural (number_value text))
+
+abbrev pub target_found : List ℕ → Option Token → Target
+target_found line (Some token) = target_of token.kind (token_text line token)
+target_found line None = Address 0
 
 abbrev pub target_at : List ℕ → List Token → ℕ → Target
-target_at line [] at = Address 0
-target_at line (token ∷ tokens) zero = target_of token.kind (token_text line token)
-target_at line (token ∷ tokens) (suc at) = target_at line tokens at
+target_at line tokens at = target_found line (slice_get tokens at)
 
 abbrev pub with_number : ℕ → TokenKind → List ℕ → List ℕ → List ℕ
-with_number width Number text numbers = in_bits width (number_of text) ∷ numbers
+with_number width Number text numbers = in_bits width (number_value text) ∷ numbers
 with_number width kind text numbers = numbers
 
 -- the numbers among these tokens, each as so many bits
@@ -187,15 +216,15 @@ item_by_form line other inst tokens = Plain inst
 -- What a statement puts, by operands that have its shape.
 unfoldable pub item_of : List ℕ → Statement → List Token → Item
 item_of line (Instruction row) tokens = item_by_form line (row_at row).form (inst_of line row (Instruction row) tokens) tokens
-item_of line Li tokens = LoadNumber (unwrap_or (register_of (text_at line tokens 0)) 0) (in_bits 32 (number_of (text_at line tokens 2)))
-item_of line La tokens = LoadLabel (unwrap_or (register_of (text_at line tokens 0)) 0) (text_at line tokens 2)
+item_of line Li tokens = LoadNumber (register_value (text_at line tokens 0)) (in_bits 32 (number_value (text_at line tokens 2)))
+item_of line La tokens = LoadLabel (register_value (text_at line tokens 0)) (text_at line tokens 2)
 item_of line Move tokens = Plain (inst_of line or_row Move tokens)
 item_of line Nop tokens = Words (0 ∷ [])
 item_of line Branch tokens = BranchTo (bare beq_row) (target_at line tokens 0)
-item_of line Org tokens = Origin (natural (number_of (text_at line tokens 0)))
+item_of line Org tokens = Origin (natural (number_value (text_at line tokens 0)))
 item_of line Word tokens = Words (numbers_of 32 line tokens)
 item_of line Byte tokens = Bytes (numbers_of 8 line tokens)
-item_of line Space tokens = Zeros (natural (number_of (text_at line tokens 0)))
+item_of line Space tokens = Zeros (natural (number_value (text_at line tokens 0)))
 item_of line Align tokens = Aligned (alignment_of (number_of (text_at line tokens 0)))
 item_of line Ascii tokens = Bytes (unwrap_or (bytes_of_text (text_at line tokens 0)) [])
 

@@ -1,23 +1,23 @@
 //! The bytes of statements.
 
-ghost use Rattle.std.specs.Prelude.{◌≡◌, ℕ, List, ◌<◌, ◌+◌, ◌^◌, ◌++◌, OnOk};
+ghost use Rattle.std.specs.Prelude.{◌≡◌, ℕ, List, ◌<◌, ◌+◌, ◌^◌, ◌++◌, [], IsSome, OnOk, unwrap_or};
 ghost use Rattle.flat_ram.specs.Bytes.{bytes_of, zeros_of};
 ghost use Rattle.mips3_table.specs.Instructions.{IsInst};
 ghost use Rattle.mips_asm.specs.Assembly as law;
 ghost use Rattle.mips_text.specs.Printed as printed;
+ghost use Rattle.mips_text.specs.Values.{bytes_of_text};
 ghost use Rattle.mips_asm.specs.Layout.{label_at};
 ghost use Rattle.mips_asm.specs.Line.{bare as bare_of};
 ghost use Rattle.mips_asm.specs.Shown.{IsAppended, IsCoded, IsSound, NeedsNoLabel, item_shown, target_shown, word_shown};
 
 use mips3_code::encode;
 use mips3_table::Inst;
-use mips_text::AsmWhy;
+use mips_text::{AsmWhy, push_text};
 use std::alloc::AllocError;
 
 use crate::items::{Goal, Item};
 use crate::labels::Labels;
 use crate::layout::padding;
-use crate::texts::put_text;
 
 
 /// Why the bytes of a statement were not appended.
@@ -235,6 +235,15 @@ fn put_label_loading(
     };
     put_loading(register, number, bytes)?;
     Ok(())
+}
+
+/// Appends the bytes of a text.
+#[tactic(auto, using(crate::proofs::LabelList::text_given))]
+fn put_text(text: &[u8], bytes: &mut Vec<u8>) -> Result<(), AllocError>
+    requires { IsSome (bytes_of_text text.now) }
+    ensures { OnOk result (bytes.new.items ≡ bytes.old.items ++ unwrap_or (bytes_of_text text.now) []) }
+{
+    push_text(text, bytes)
 }
 
 /// Appends what needs no label.

@@ -25,9 +25,9 @@ pub enum Item<'a> {
     /// A register loaded with the address of a label.
     LoadLabel(u8, &'a [u8]),
     /// Numbers of 32 bits.
-    Words(ArrayVec<u32, 32>),
+    Words(ArrayVec<u32, 64>),
     /// Bytes.
-    Bytes(ArrayVec<u8, 32>),
+    Bytes(ArrayVec<u8, 64>),
     /// The bytes of a text, which stands here with its quotes and escapes.
     Text(&'a [u8]),
     /// So many zeros.

@@ -7,8 +7,7 @@ ghost use Rattle.mips_asm.specs.Shown.{IsSound, IsSoundLine, item_shown, label_s
 
 use crate::items::{Item, Line};
 use crate::labels::Labels;
-use crate::texts::text_length;
-use mips_text::AsmWhy;
+use mips_text::{AsmWhy, text_size};
 
 /// The base of a source whose first byte stands before any `.org`.
 pub const USUAL_BASE: u32 = 0x80010000;
@@ -19,7 +18,7 @@ pub fn puts_first_byte(item: &Item) -> bool
 {
     match item {
         Item::Bytes(bytes) => !bytes.is_empty(),
-        Item::Text(text) => text_length(text).unwrap_or(0) > 0,
+        Item::Text(text) => text_size(text).unwrap_or(0) > 0,
         Item::Zeros(count) => *count > 0,
         Item::Aligned(_) | Item::Origin(_) => false,
         _ => true,
@@ -52,7 +51,7 @@ pub fn size_at(address: u64, item: &Item) -> u64
         Item::LoadNumber(..) | Item::LoadLabel(..) => 8,
         Item::Words(words) => 4 * words.len() as u64,
         Item::Bytes(bytes) => bytes.len() as u64,
-        Item::Text(text) => text_length(text).unwrap_or(0) as u64,
+        Item::Text(text) => text_size(text).unwrap_or(0) as u64,
         Item::Zeros(count) => u64::from(*count),
         Item::Origin(origin) => u64::from(*origin).saturating_sub(address),
         Item::Aligned(Some(power)) => padding(*power, address),

@@ -11,12 +11,12 @@ mod coding;
 mod items;
 mod labels;
 mod layout;
+mod matching;
 mod passes;
 mod reading;
 mod slots;
 mod sources;
 mod statements;
-mod texts;
 
 pub use built::{AsmFault, Built};
 pub use passes::assemble;

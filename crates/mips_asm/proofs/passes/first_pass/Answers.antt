@@ -1,4 +1,5 @@
 use Rattle.std.proofs.Common.{◌≡◌, ◌+◌, length, sym, ap, ◌∙◌, arith}
+use Rattle.std.proofs.lemmas.Grind.{common_steps}
 use Rattle.mips_asm.specs.Layout as layout
 use Rattle.mips_asm.specs.Layout.{fault_at, place_after}
 use Rattle.mips_asm.specs.Assembly.{first_pass}
@@ -28,5 +29,5 @@ loop-rest-preserved c =
 
 pub returns : goal.returns
 returns c =
-    let none : length c.loop-rest.rest.now ≡ 0 = omega arith in
+    let none : length c.loop-rest.rest.now ≡ 0 = grind (arith, common_steps) in
     sym c.loop-rest.invariant.0 ∙ first_pass_end c.args.base c.loop-rest.number (place_at c.loop-rest.address c.loop-rest.labels) c.loop-rest.rest.now none
