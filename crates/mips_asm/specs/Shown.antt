@@ -1,5 +1,5 @@
 -- What the values of the code stand for in the definitions.
-use Rattle.std.specs.Prelude.{◌≡◌, ◌<◌, ◌≤◌, ◌^◌, ◌++◌, ℕ, List, [], ◌∷◌, Option, Some, None, Result, Ok, Err, IsSome, IfSome, unwrap_or, option_map}
+use Rattle.std.specs.Prelude.{◌≡◌, ◌<◌, ◌≤◌, ◌^◌, ◌++◌, ℕ, List, [], ◌∷◌, Option, Some, None, Result, Ok, Err, IfSome, unwrap_or, option_map}
 use Rattle.std.specs.Borrow.{Bor}
 use Rattle.flat_ram.specs.Bytes.{bytes_of}
 use Rattle.mips3_table.specs.declared.instruction.Inst.{Inst}
@@ -55,14 +55,13 @@ reading_shown (Ok line) = law.Read (line_shown line)
 reading_shown (Err reason) = law.Refused reason
 
 -- an item can be coded: its instruction is one of the table, with any number of its width where it has a target; its
--- register is one; its text has no other escapes than those that there are; its alignment is one
+-- register is one; its alignment is one
 abbrev pub IsSound : Item → Type 0
 IsSound (item.Plain inst) = IsInst inst
 IsSound (item.BranchTo inst target) = (number : ℕ) → number < 2 ^ 16 → IsInst (record inst { imm = number })
 IsSound (item.JumpTo inst target) = (number : ℕ) → number < 2 ^ 26 → IsInst (record inst { imm = number })
 IsSound (item.LoadNumber register number) = register < 32
 IsSound (item.LoadLabel register name) = register < 32
-IsSound (item.Text text) = IsSome (bytes_of_text text.now)
 IsSound (item.Aligned (Some power)) = power ≤ 12
 IsSound item = Unit {0}
 

@@ -1,8 +1,10 @@
 -- What the statements and the expected tokens of the code stand for in the definitions.
-use Rattle.std.specs.Prelude.{ℕ, ℤ, ◌<◌, List, [], ◌∷◌, Option, Some, None, codes, bytes_eq, option_map, if◌then◌else◌}
+use Rattle.std.specs.Prelude.{◌≡◌, ℕ, ◌<◌, ◌≤◌, List, [], ◌∷◌, Option, Some, None, codes, bytes_eq, option_map, if◌then◌else◌}
+use Rattle.mips3_table.specs.Operands.{Widths}
 use Rattle.mips_text.specs.Forms as forms
 use Rattle.mips_asm.specs.declared.statements.Statement.{Statement}
 use Rattle.mips_asm.specs.declared.statements.Statement.TheVariants as statement
+use Rattle.mips_asm.specs.declared.operands.Bits.{Bits}
 use Rattle.mips_asm.specs.declared.slots.Place.{Place}
 use Rattle.mips_asm.specs.declared.slots.Place.TheVariants as place
 use Rattle.mips_asm.specs.declared.slots.Span.{Span}
@@ -75,3 +77,9 @@ slot_shown (slot.Mark code) = forms.AMark code
 abbrev pub slots_shown : List Slot → List forms.Expected
 slots_shown [] = []
 slots_shown (one ∷ slots) = slot_shown one ∷ slots_shown slots
+
+-- the bits of a form's fields, as the code has them
+abbrev pub AreWidths : Widths → Bits → Type 0
+AreWidths w bits =
+    (bits.rs ≡ w.rs) × (bits.rt ≡ w.rt) × (bits.rd ≡ w.rd) × (bits.sa ≡ w.sa) × (bits.number ≡ w.number)
+    × (bits.rs ≤ 5) × (bits.rt ≤ 5) × (bits.rd ≤ 5) × (bits.sa ≤ 5) × (bits.number ≤ 26)

@@ -1,6 +1,6 @@
 //! The bytes of statements.
 
-ghost use Rattle.std.specs.Prelude.{◌≡◌, ℕ, List, ◌<◌, ◌+◌, ◌^◌, ◌++◌, [], IsSome, OnOk, unwrap_or};
+ghost use Rattle.std.specs.Prelude.{◌≡◌, ℕ, List, ◌<◌, ◌+◌, ◌^◌, ◌++◌, [], OnOk, unwrap_or};
 ghost use Rattle.flat_ram.specs.Bytes.{bytes_of, zeros_of};
 ghost use Rattle.mips3_table.specs.Instructions.{IsInst};
 ghost use Rattle.mips_asm.specs.Assembly as law;
@@ -12,7 +12,7 @@ ghost use Rattle.mips_asm.specs.Shown.{IsAppended, IsCoded, IsSound, NeedsNoLabe
 
 use mips3_code::encode;
 use mips3_table::Inst;
-use mips_text::{AsmWhy, push_text};
+use mips_text::{AsmWhy, push_text, text_size};
 use std::alloc::AllocError;
 
 use crate::items::{Goal, Item};
@@ -240,9 +240,11 @@ fn put_label_loading(
 /// Appends the bytes of a text.
 #[tactic(auto, using(crate::proofs::LabelList::text_given))]
 fn put_text(text: &[u8], bytes: &mut Vec<u8>) -> Result<(), AllocError>
-    requires { IsSome (bytes_of_text text.now) }
     ensures { OnOk result (bytes.new.items ≡ bytes.old.items ++ unwrap_or (bytes_of_text text.now) []) }
 {
+    if text_size(text).is_none() {
+        return Ok(());
+    }
     push_text(text, bytes)
 }
 

@@ -12,6 +12,7 @@ mod items;
 mod labels;
 mod layout;
 mod matching;
+mod operands;
 mod passes;
 mod reading;
 mod slots;

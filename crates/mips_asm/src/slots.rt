@@ -103,6 +103,7 @@ fn put_form(form: Form, out: &mut Slots)
     }
 }
 
+#[tactic(auto, using(crate::proofs::SlotList::slots_shown_append, crate::proofs::SlotList::numbers_more, crate::proofs::SlotList::numbers_last, std::proofs::lemmas::Grind::common_steps))]
 /// Appends a number and so many further ones with commas before them.
 fn put_numbers(span: Span, more: usize, out: &mut Slots)
     requires { array_vec_len out.old + 2 * more + 1 ≤ 64 }
