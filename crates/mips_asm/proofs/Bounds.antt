@@ -1,6 +1,5 @@
 -- A number whose magnitude is 2 ^ 32 or more lies in no span.
-use Rattle.std.proofs.Common.{◌≡◌, ◌+◌, ◌≤◌, ◌<◌, ◌^◌, ℕ, ℤ, pos, negsuc, Bool, true, false, ◌&&◌, nat_lt, nat_le, refl, arith, Some, None}
-use Rattle.std.specs.Prelude.{int_le}
+use Rattle.std.proofs.Common.{◌≡◌, ◌+◌, ◌<◌, ◌^◌, ℕ, ℤ, pos, negsuc, false, nat_le, refl, arith, None}
 use Rattle.std.proofs.lemmas.Grind.{common_steps}
 use Rattle.mips_text.specs.Forms.{in_range, Between, unsigned}
 use Rattle.mips_text.specs.Values.{bounded}

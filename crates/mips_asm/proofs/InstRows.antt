@@ -1,10 +1,10 @@
 -- The row of an instruction stays while its operands are read, and `beq` takes any number of 16 bits.
 use Rattle.std.proofs.Common.{◌≡◌, ◌<◌, ◌^◌, ℕ, List, [], ◌∷◌, refl, ◌∙◌, arith}
 use Rattle.mips3_table.specs.declared.instruction.Inst.{Inst}
-use Rattle.mips3_table.specs.Instructions.{FitsWidths, IsInst, widths_at}
+use Rattle.mips3_table.specs.Instructions.{IsInst}
 use Rattle.mips3_table.specs.Rows.{rows, row_at}
 use Rattle.mips_text.specs.declared.token.Token.{Token}
-use Rattle.mips_text.specs.Forms.{Field, Rs, Rt, Rd, Sa, Imm, Range, Expected, ARegister, ACp0Register, ANumber, ATarget, ALabel, AText, AMark, token_text}
+use Rattle.mips_text.specs.Forms.{Field, Rs, Rt, Rd, Sa, Imm, Expected, ARegister, ACp0Register, ANumber, ATarget, ALabel, AText, AMark, token_text}
 use Rattle.mips_asm.specs.Line.{with_field, with_operand, with_operands, bare, beq_row}
 
 field_row : (field : Field) (value : ℕ) (inst : Inst) → (with_field field value inst).row ≡ inst.row

@@ -12,9 +12,9 @@ pub lookup_shown : (name : List ℕ) (entries : List (Vec ℕ Global × ℕ)) �
 lookup_shown name [] = refl
 lookup_shown name (entry ∷ entries) = ap (λ later. cond (bytes_eq name entry.0.items) (Some entry.1) later) (lookup_shown name entries)
 
-pub labels_shown_append : (entries : List (Vec ℕ Global × ℕ)) (key : Vec ℕ Global) (address : ℕ) → labels_shown (entries ++ (key , address) ∷ []) ≡ labels_shown entries ++ (key.items , address) ∷ []
+pub labels_shown_append : (entries : List (Vec ℕ Global × ℕ)) (key : Vec ℕ Global) (address : ℕ) → labels_shown (entries ++ (key, address) ∷ []) ≡ labels_shown entries ++ (key.items, address) ∷ []
 labels_shown_append [] key address = refl
-labels_shown_append (entry ∷ entries) key address = ap (λ later. (entry.0.items , entry.1) ∷ later) (labels_shown_append entries key address)
+labels_shown_append (entry ∷ entries) key address = ap (λ later. (entry.0.items, entry.1) ∷ later) (labels_shown_append entries key address)
 
 -- the bytes of a text that has them
 pub text_given : (found : Option (List ℕ)) (old new : List ℕ) → IfSome found (λ bytes. new ≡ old ++ bytes) → IsSome found → new ≡ old ++ unwrap_or found []

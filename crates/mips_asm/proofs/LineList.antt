@@ -1,5 +1,5 @@
 -- The first line of a source.
-use Rattle.std.proofs.Common.{◌≡◌, ◌+◌, ◌<◌, ◌≤◌, ◌==◌, ℕ, zero, suc, Bool, true, false, not, List, [], ◌∷◌, length, take, drop, cond, refl, ap, ◌∙◌, arith, add-one}
+use Rattle.std.proofs.Common.{◌≡◌, ◌+◌, ◌<◌, ◌≤◌, ◌==◌, ℕ, zero, suc, Bool, true, false, not, List, [], ◌∷◌, length, take, drop, cond, refl, ap, arith, add-one}
 use Rattle.std.specs.List.{prefix_len}
 use Rattle.mips_asm.specs.Layout.{before_lines, lines_of}
 use Rattle.mips_asm.specs.LabelsOf.{in_line}

@@ -1,17 +1,15 @@
 -- The base and the two passes, a line at a time; and a statement has as many bytes as its size says.
-use Rattle.std.proofs.Common.{◌≡◌, ◌+◌, ◌-◌, ◌*◌, ◌==◌, ℕ, zero, suc, Bool, true, false, List, [], ◌∷◌, ◌++◌, Option, Some, None, length, cond, refl, ap, sym, ◌∙◌, arith, append_assoc, length-append, append-nil, subst, Ok, Err}
-use Rattle.std.proofs.lemmas.Grind.{common_steps}
+use Rattle.std.proofs.Common.{◌≡◌, ◌+◌, ◌-◌, ◌*◌, ◌==◌, ℕ, Bool, true, false, List, [], ◌∷◌, ◌++◌, Option, Some, None, length, cond, refl, ap, sym, ◌∙◌, arith, append_assoc, length-append, append-nil, subst, Ok, Err}
 use Rattle.std.proofs.lemmas.List.{length-replicate}
-use Rattle.std.specs.Prelude.{unwrap_or}
 use Rattle.flat_ram.specs.Bytes.{bytes_of, zeros_of}
 use Rattle.mips3_code.specs.Coding.{encoded}
 use Rattle.mips3_table.specs.declared.instruction.Inst.{Inst}
 use Rattle.mips_text.specs.declared.reason.AsmWhy.{AsmWhy}
 use Rattle.mips_text.specs.declared.reason.AsmWhy.TheVariants as why
 use Rattle.mips_text.specs.Printed.{branch_target, jump_target}
-use Rattle.mips_asm.specs.Line.{Item, Plain, BranchTo, JumpTo, LoadNumber, LoadLabel, Words, Bytes, Zeros, Origin, Aligned, Line, Reading, Read, Refused, read_line}
+use Rattle.mips_asm.specs.Line.{Item, Plain, BranchTo, JumpTo, LoadNumber, LoadLabel, Words, Bytes, Zeros, Origin, Aligned, Line, Read, Refused, read_line}
 use Rattle.mips_asm.specs.Layout.{Place, base_by, base_of, usual_base, size_at, size_of, padding_to, lines_of, place_after, fault_at, label_at}
-use Rattle.mips_asm.specs.Assembly.{Coded, Given, Lacking, address_of, where_known, branch_to, jump_to, distance_to, word_number, loading, bytes_of_words, coded_at, coded_of, FirstPass, Laid, Stopped, pass_on, pass_line, first_pass, SecondPass, Filled, Missing, with_bytes, fill_line, item_read, second_pass}
+use Rattle.mips_asm.specs.Assembly.{Coded, Given, Lacking, address_of, where_known, branch_to, jump_to, distance_to, word_number, loading, bytes_of_words, coded_at, coded_of, Laid, Stopped, pass_on, pass_line, first_pass, SecondPass, Filled, Missing, with_bytes, fill_line, item_read, second_pass}
 use Rattle.mips_asm.specs.declared.coding.Stop.TheVariants.{Lacks}
 use Rattle.mips_asm.specs.PassesOf.{IsLaid, place_at}
 
@@ -158,7 +156,7 @@ second_pass_end labels number address front source none =
 -- THE CALLS
 
 pub laid_on : (fault : Option AsmWhy) (place : Place) (next : ℕ) (labels : List (List ℕ × ℕ)) → IsLaid fault place (Ok next) labels → (fault ≡ None) × (place ≡ place_at next labels)
-laid_on None place next labels is = (refl , is)
+laid_on None place next labels is = (refl, is)
 laid_on (Some reason) place next labels is = absurd is
 
 pub stopped_at : (fault : Option AsmWhy) (place : Place) (reason : AsmWhy) (labels : List (List ℕ × ℕ)) → IsLaid fault place (Err (Lacks reason)) labels → fault ≡ Some reason

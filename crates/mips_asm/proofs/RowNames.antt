@@ -1,6 +1,6 @@
 -- The row of a name, by its place in the table.
-use Rattle.std.proofs.Common.{◌≡◌, ◌<◌, ◌≤◌, ℕ, Bool, true, false, cond, List, length, Option, Some, None, slice_index_or, nat_lt, ap, ◌∙◌, arith, lt-ltb, bytes_eq}
-use Rattle.std.specs.List.{position, position_or_len}
+use Rattle.std.proofs.Common.{◌≡◌, ◌<◌, ℕ, Bool, true, false, cond, List, length, Some, None, nat_lt, ap, ◌∙◌, arith, lt-ltb, bytes_eq}
+use Rattle.std.specs.List.{position_or_len}
 use Rattle.std.proofs.lemmas.List.Sums.{position_or_len_is}
 use Rattle.std.proofs.lemmas.Grind.{common_steps}
 use Rattle.mips3_table.specs.Rows.{Row, rows, row_at, no_row}

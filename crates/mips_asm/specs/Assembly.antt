@@ -3,14 +3,14 @@
 -- its bytes.
 -- Source: the assembler language of this project, and the MIPS R4000 Microprocessor User's Manual, 2nd edition
 -- (Heinrich), appendix A, for the targets of branches and jumps.
-use Rattle.std.specs.Prelude.{ℕ, ◌+◌, ◌-◌, ◌*◌, ◌/◌, ◌%◌, ◌^◌, ◌==◌, if◌then◌else◌, List, [], ◌∷◌, ◌++◌, Option, Some, None, codes, unwrap_or}
+use Rattle.std.specs.Prelude.{ℕ, ◌+◌, ◌-◌, ◌/◌, ◌%◌, ◌^◌, ◌==◌, if◌then◌else◌, List, [], ◌∷◌, ◌++◌, Option, Some, None, codes, unwrap_or}
 use Rattle.flat_ram.specs.Bytes.{bytes_of, zeros_of}
 use Rattle.mips3_table.specs.declared.instruction.Inst.{Inst}
 use Rattle.mips3_code.specs.Coding.{encoded}
 use Rattle.mips_text.specs.declared.reason.AsmWhy.{AsmWhy}
 use Rattle.mips_text.specs.declared.reason.AsmWhy.TheVariants as why
 use Rattle.mips_text.specs.Printed.{branch_target, jump_target}
-use Rattle.mips_asm.specs.Line.{Target, Address, Label, Item, Plain, BranchTo, JumpTo, LoadNumber, LoadLabel, Words, Bytes, Zeros, Origin, Aligned, Line, Reading, Read, Refused, read_line, bare, lui_row, ori_row}
+use Rattle.mips_asm.specs.Line.{Target, Address, Label, Item, Plain, BranchTo, JumpTo, LoadNumber, LoadLabel, Words, Bytes, Zeros, Origin, Aligned, Reading, Read, Refused, read_line, bare, lui_row, ori_row}
 use Rattle.mips_asm.specs.Layout.{Place, lines_of, base_of, padding_to, size_of, label_at, place_after, fault_at}
 
 -- What a source is assembled to.
@@ -132,7 +132,7 @@ unfoldable pub second_pass : List (List ℕ × ℕ) → ℕ → ℕ → List (Li
 second_pass labels number address [] = Filled []
 second_pass labels number address (line ∷ lines) =
     fill_line number (coded_of labels address (item_read (read_line line)))
-        (second_pass labels (number + 1) (address + size_of address (item_read (read_line line))) lines)
+    (second_pass labels (number + 1) (address + size_of address (item_read (read_line line))) lines)
 
 -- the entry is the label `start`, else the base
 abbrev pub entry_of : ℕ → List (List ℕ × ℕ) → ℕ

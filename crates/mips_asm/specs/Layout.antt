@@ -2,7 +2,7 @@
 -- not stand at its address.
 -- Source: the assembler language of this project. An image lies in kseg0 and kseg1, which the TLB does not map, and has
 -- at most as many bytes as this machine's RAM (MIPS R4000 Microprocessor User's Manual, 2nd edition, Heinrich, chapter 4).
-use Rattle.std.specs.Prelude.{ℕ, ◌+◌, ◌-◌, ◌*◌, ◌%◌, ◌^◌, ◌==◌, nat_lt, nat_le, Bool, true, false, not, ◌&&◌, ◌||◌, if◌then◌else◌, List, [], ◌∷◌, ◌++◌, length, Option, Some, None, is_some, codes, bytes_eq, unwrap_or}
+use Rattle.std.specs.Prelude.{ℕ, ◌+◌, ◌-◌, ◌*◌, ◌%◌, ◌^◌, ◌==◌, nat_lt, nat_le, Bool, true, false, not, ◌&&◌, ◌||◌, if◌then◌else◌, List, [], ◌∷◌, ◌++◌, length, Option, Some, None, is_some, codes, bytes_eq}
 use Rattle.mips_text.specs.declared.reason.AsmWhy.{AsmWhy}
 use Rattle.mips_text.specs.declared.reason.AsmWhy.TheVariants as why
 use Rattle.mips_asm.specs.Line.{Item, Plain, BranchTo, JumpTo, LoadNumber, LoadLabel, Words, Bytes, Zeros, Origin, Aligned, Line, Reading, Read, Refused, read_line}
@@ -88,7 +88,7 @@ pub record Place : Type 0 where
 
 abbrev pub with_label_at : Option (List ℕ) → ℕ → List (List ℕ × ℕ) → List (List ℕ × ℕ)
 with_label_at None address labels = labels
-with_label_at (Some name) address labels = labels ++ (name , address) ∷ []
+with_label_at (Some name) address labels = labels ++ (name, address) ∷ []
 
 -- the place after a line; an address is a number of 32 bits, and a place past them is one of no image
 abbrev pub place_after : Place → Line → Place

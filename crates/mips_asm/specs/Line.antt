@@ -3,7 +3,7 @@
 -- Source: the assembler language of this project, whose statements are the instruction formats of the MIPS R4000
 -- Microprocessor User's Manual, 2nd edition (Heinrich), appendix A, with a part of the further statements and of the
 -- directives of the MIPS assembler.
-use Rattle.std.specs.Prelude.{ℕ, ℤ, pos, negsuc, zero, suc, ◌+◌, ◌-◌, ◌/◌, ◌%◌, ◌^◌, ◌==◌, nat_lt, nat_le, Bool, true, false, not, ◌&&◌, ◌||◌, if◌then◌else◌, List, [], ◌∷◌, length, slice_index, slice_get, Option, Some, None, unwrap_or}
+use Rattle.std.specs.Prelude.{ℕ, ℤ, pos, negsuc, zero, suc, ◌-◌, ◌/◌, ◌%◌, ◌^◌, ◌==◌, nat_lt, nat_le, Bool, true, false, not, ◌&&◌, ◌||◌, if◌then◌else◌, List, [], ◌∷◌, length, slice_index, slice_get, Option, Some, None, unwrap_or}
 use Rattle.mips3_table.specs.declared.instruction.Inst.{Inst}
 use Rattle.mips3_table.specs.declared.operand_forms.Form.{Form}
 use Rattle.mips3_table.specs.declared.operand_forms.Form.TheVariants as form
@@ -14,8 +14,8 @@ use Rattle.mips_text.specs.declared.reason.AsmWhy.{AsmWhy}
 use Rattle.mips_text.specs.declared.reason.AsmWhy.TheVariants as why
 use Rattle.mips_text.specs.declared.token.Token.{Token}
 use Rattle.mips_text.specs.declared.token.TokenKind.{TokenKind}
-use Rattle.mips_text.specs.declared.token.TokenKind.TheVariants.{Name, Number, Text, Mark}
-use Rattle.mips_text.specs.Tokens.{Cut, tokens_of}
+use Rattle.mips_text.specs.declared.token.TokenKind.TheVariants.{Name, Number, Mark}
+use Rattle.mips_text.specs.Tokens.{tokens_of}
 use Rattle.mips_text.specs.Names.{register_of, cp0_register_of}
 use Rattle.mips_text.specs.Values.{number_of, bounded, bytes_of_text}
 use Rattle.mips_text.specs.Forms.{Field, Rs, Rt, Rd, Sa, Imm, Range, Expected, ARegister, ACp0Register, ANumber, AMark, Shape, Tokens, Numbers, Statement, Instruction, Li, La, Move, Nop, Branch, Org, Word, Byte, Space, Align, Ascii, shape_of, statement_named, token_text, names_no_register, has_kind, has_range}

@@ -7,18 +7,16 @@ ghost use Rattle.mips_asm.specs.Assembly as law;
 ghost use Rattle.mips_text.specs.Printed as printed;
 ghost use Rattle.mips_text.specs.Values.{bytes_of_text};
 ghost use Rattle.mips_asm.specs.Layout.{label_at};
-ghost use Rattle.mips_asm.specs.Line.{bare as bare_of};
 ghost use Rattle.mips_asm.specs.Shown.{IsAppended, IsCoded, IsSound, NeedsNoLabel, item_shown, target_shown, word_shown};
-
-use mips3_code::encode;
-use mips3_table::Inst;
-use mips_text::{AsmWhy, push_text, text_size};
-use std::alloc::AllocError;
 
 use crate::items::{Goal, Item};
 use crate::labels::Labels;
 use crate::layout::padding;
-
+use crate::operands::bare;
+use mips_text::{AsmWhy, push_text, text_size};
+use mips3_code::encode;
+use mips3_table::Inst;
+use std::alloc::AllocError;
 
 /// Why the bytes of a statement were not appended.
 pub enum Stop {
@@ -30,6 +28,7 @@ pub enum Stop {
 
 impl From<AllocError> for Stop {
     ghost use Rattle.mips_asm.specs.declared.coding.Stop.TheVariants.{Memory};
+
     ghost from_gives = { λ _ e. e ≡ Memory };
 
     fn from(_error: AllocError) -> Stop {
@@ -39,6 +38,7 @@ impl From<AllocError> for Stop {
 
 /// The rows of `ori` and `lui` in the table.
 const ORI: u8 = 17;
+
 const LUI: u8 = 19;
 
 /// Appends a word, its high byte first.
@@ -87,7 +87,11 @@ fn branch_target(at: u64, distance: u32) -> u32
     requires small { distance < 2 ^ 16 }
     ensures { result ≡ printed.branch_target at distance }
 {
-    let words = if distance < 0x8000 { u64::from(distance) } else { u64::from(distance) + 0xffff0000 };
+    let words = if distance < 0x8000 {
+        u64::from(distance)
+    } else {
+        u64::from(distance) + 0xffff0000
+    };
     ((at + 4 + 4 * words) % 0x100000000) as u32
 }
 
@@ -131,27 +135,23 @@ fn jump_to(inst: &Inst, at: u64, target: u32) -> Option<u32>
     }
 }
 
-fn bare(row: u8) -> Inst
-    ensures { result ≡ bare_of row }
-{
-    Inst {
-        row,
-        rs: 0,
-        rt: 0,
-        rd: 0,
-        sa: 0,
-        imm: 0,
-    }
-}
-
 /// Appends the two instructions that load a register with a number.
 #[tactic(auto, unfolding(crate::specs::Assembly::loading, mips3_table::specs::Rows::row_at, mips3_table::specs::Rows::rows))]
 fn put_loading(register: u8, number: u32, bytes: &mut Vec<u8>) -> Result<(), AllocError>
     requires { register < 32 }
     ensures { OnOk result (bytes.new.items ≡ bytes.old.items ++ law.loading register number) }
 {
-    let upper = Inst { rt: register, imm: number >> 16, ..bare(LUI) };
-    let lower = Inst { rs: register, rt: register, imm: number & 0xffff, ..bare(ORI) };
+    let upper = Inst {
+        rt: register,
+        imm: number >> 16,
+        ..bare(LUI)
+    };
+    let lower = Inst {
+        rs: register,
+        rt: register,
+        imm: number & 0xffff,
+        ..bare(ORI)
+    };
     put_word(encode(&upper), bytes)?;
     put_word(encode(&lower), bytes)
 }
@@ -271,12 +271,7 @@ fn put_plain(at: u64, item: &Item, bytes: &mut Vec<u8>) -> Result<(), AllocError
 
 /// Appends the bytes of a statement at an address.
 #[tactic(auto, unfolding(crate::specs::Assembly::coded_at))]
-pub fn put_item(
-    labels: &Labels,
-    at: u64,
-    item: &Item,
-    bytes: &mut Vec<u8>,
-) -> Result<(), Stop>
+pub fn put_item(labels: &Labels, at: u64, item: &Item, bytes: &mut Vec<u8>) -> Result<(), Stop>
     requires far { at < 2 ^ 63 + 2 ^ 33 }
     requires sound { IsSound item.now }
     ensures { IsCoded (law.coded_at labels.now at (item_shown item.now)) result bytes.old.items bytes.new.items }

@@ -16,7 +16,9 @@ pub struct Labels {
 impl Model for Labels {
     ghost use Rattle.std.specs.Prelude.{List, ℕ};
     ghost use Rattle.mips_asm.specs.LabelsOf.{labels_shown};
+
     ghost Value = { List (List ℕ × ℕ) };
+
     ghost view = { λ s. labels_shown s.map.entries };
 }
 

@@ -17,11 +17,12 @@ use crate::matching::text_of;
 use crate::slots::{Place, Slot, slots_of};
 use crate::statements::Statement;
 use arrayvec::ArrayVec;
-use mips3_table::{Form, Inst, form_of};
 use mips_text::{Token, TokenKind, cp0_register_of, number_of, register_of};
+use mips3_table::{Form, Inst, form_of};
 
 /// The rows of `beq` and `or` in the table.
 const BEQ: u8 = 2;
+
 const OR: u8 = 91;
 
 /// The number of a text that lies in a field, 0 for one of 2^32 or more.
@@ -170,7 +171,8 @@ fn fitted(form: Form, inst: Inst) -> Inst
     }
 }
 
-fn bare(row: u8) -> Inst
+/// The instruction of a row with every field 0.
+pub fn bare(row: u8) -> Inst
     ensures { result ≡ law.bare row }
 {
     Inst {
@@ -195,7 +197,10 @@ fn inst_of(line: &[u8], row: u8, statement: Statement, operands: &[Token]) -> In
     ensures sound { FitsWidths (widths_at row) result }
 {
     let slots = slots_of(statement, operands.len());
-    fitted(form_of(row), with_operands(line, &slots, operands, bare(row)))
+    fitted(
+        form_of(row),
+        with_operands(line, &slots, operands, bare(row)),
+    )
 }
 
 /// The text of the token at an index.
@@ -203,7 +208,11 @@ fn text_at<'a>(line: &'a [u8], list: &[Token], at: usize) -> &'a [u8]
     requires { All (IsWithin (length line.now)) list.now }
     ensures { result.now ≡ law.text_at line.now list.now at }
 {
-    if at < list.len() { text_of(line, &list[at]) } else { &[] }
+    if at < list.len() {
+        text_of(line, &list[at])
+    } else {
+        &[]
+    }
 }
 
 /// The number of a text that is not negative.
@@ -294,7 +303,7 @@ fn item_by_form<'a>(line: &'a [u8], form: Form, inst: Inst, operands: &[Token]) 
     }
 }
 
-/// What a directive puts.
+/// What a statement puts, by operands that have its shape.
 #[tactic(auto, unfolding(crate::specs::Line::item_of))]
 pub fn item_of<'a>(line: &'a [u8], statement: Statement, operands: &[Token]) -> Item<'a>
     requires few { length operands.now < 64 }
@@ -310,7 +319,10 @@ pub fn item_of<'a>(line: &'a [u8], statement: Statement, operands: &[Token]) -> 
         }
         Statement::Li => {
             let register = register_value(text_at(line, operands, 0));
-            Item::LoadNumber(register, low_bits(32, number_value(text_at(line, operands, 2))))
+            Item::LoadNumber(
+                register,
+                low_bits(32, number_value(text_at(line, operands, 2))),
+            )
         }
         Statement::La => Item::LoadLabel(
             register_value(text_at(line, operands, 0)),

@@ -23,7 +23,11 @@ fn decided_base(item: &Item) -> Option<u32>
     if let Item::Origin(address) = item {
         return Some(*address);
     }
-    if puts_first_byte(item) { Some(USUAL_BASE) } else { None }
+    if puts_first_byte(item) {
+        Some(USUAL_BASE)
+    } else {
+        None
+    }
 }
 
 /// The base that a line decides, if it does. One that cannot be read decides nothing.
@@ -32,7 +36,12 @@ fn base_of_line(line: &[u8]) -> Option<u32>
     ensures { (later : ℕ) → unwrap_or result later ≡ layout.base_by (line_law.read_line line.now) later }
 {
     match read_line(line) {
-        Ok(Line { item: Some(item), .. }) => decided_base(&item),
+        Ok(
+            Line {
+                item: Some(item),
+                ..
+            },
+        ) => decided_base(&item),
         _ => None,
     }
 }
@@ -113,19 +122,19 @@ fn fill_line(labels: &Labels, at: u64, line: &[u8], bytes: &mut Vec<u8>) -> Resu
     ensures { IsCoded (law.coded_of labels.now at (law.item_read (line_law.read_line line.now))) result bytes.old.items bytes.new.items }
 {
     match read_line(line) {
-        Ok(Line { item: Some(item), .. }) => put_item(labels, at, &item, bytes),
+        Ok(
+            Line {
+                item: Some(item),
+                ..
+            },
+        ) => put_item(labels, at, &item, bytes),
         _ => Ok(()),
     }
 }
 
 /// Appends the bytes of a source, by its second pass.
 #[tactic(auto, using(crate::proofs::PassList::second_pass_nothing, crate::proofs::PassList::with_nothing, crate::proofs::PassList::second_pass_lacking, crate::proofs::PassList::second_pass_more))]
-fn fill(
-    base: u32,
-    labels: &Labels,
-    source: &[u8],
-    bytes: &mut Vec<u8>,
-) -> Result<(), AsmFault>
+fn fill(base: u32, labels: &Labels, source: &[u8], bytes: &mut Vec<u8>) -> Result<(), AsmFault>
     requires empty { bytes.old.items ≡ [] }
     requires short { length source.now ≤ 4294967294 }
     ensures { IsSecondPass (law.second_pass labels.now 1 base (layout.lines_of source.now)) result bytes.new.items }

@@ -79,32 +79,145 @@ fn put_form(form: Form, out: &mut Slots)
 {
     match form {
         Form::Target => put(&[Slot::Target], out),
-        Form::CompareBranch => put(&[Slot::Register(Place::Rs), COMMA, Slot::Register(Place::Rt), COMMA, Slot::Target], out),
+        Form::CompareBranch => put(
+            &[
+                Slot::Register(Place::Rs),
+                COMMA,
+                Slot::Register(Place::Rt),
+                COMMA,
+                Slot::Target,
+            ],
+            out,
+        ),
         Form::ZeroBranch => put(&[Slot::Register(Place::Rs), COMMA, Slot::Target], out),
-        Form::SignedImmediate => put(&[Slot::Register(Place::Rt), COMMA, Slot::Register(Place::Rs), COMMA, Slot::Number(Span::Signed16)], out),
-        Form::UnsignedImmediate => put(&[Slot::Register(Place::Rt), COMMA, Slot::Register(Place::Rs), COMMA, Slot::Number(Span::Unsigned16)], out),
-        Form::UpperImmediate => put(&[Slot::Register(Place::Rt), COMMA, Slot::Number(Span::Unsigned16)], out),
-        Form::Memory => put(&[Slot::Register(Place::Rt), COMMA, Slot::Number(Span::Signed16), Slot::Mark(b'('), Slot::Register(Place::Rs), Slot::Mark(b')')], out),
-        Form::CacheOperation => put(&[Slot::Small(Place::Rt), COMMA, Slot::Number(Span::Signed16), Slot::Mark(b'('), Slot::Register(Place::Rs), Slot::Mark(b')')], out),
+        Form::SignedImmediate => put(
+            &[
+                Slot::Register(Place::Rt),
+                COMMA,
+                Slot::Register(Place::Rs),
+                COMMA,
+                Slot::Number(Span::Signed16),
+            ],
+            out,
+        ),
+        Form::UnsignedImmediate => put(
+            &[
+                Slot::Register(Place::Rt),
+                COMMA,
+                Slot::Register(Place::Rs),
+                COMMA,
+                Slot::Number(Span::Unsigned16),
+            ],
+            out,
+        ),
+        Form::UpperImmediate => put(
+            &[
+                Slot::Register(Place::Rt),
+                COMMA,
+                Slot::Number(Span::Unsigned16),
+            ],
+            out,
+        ),
+        Form::Memory => put(
+            &[
+                Slot::Register(Place::Rt),
+                COMMA,
+                Slot::Number(Span::Signed16),
+                Slot::Mark(b'('),
+                Slot::Register(Place::Rs),
+                Slot::Mark(b')'),
+            ],
+            out,
+        ),
+        Form::CacheOperation => put(
+            &[
+                Slot::Small(Place::Rt),
+                COMMA,
+                Slot::Number(Span::Signed16),
+                Slot::Mark(b'('),
+                Slot::Register(Place::Rs),
+                Slot::Mark(b')'),
+            ],
+            out,
+        ),
         Form::CoprocessorNumber => put(&[Slot::Number(Span::Unsigned26)], out),
-        Form::CoprocessorMemory => put(&[Slot::Small(Place::Rt), COMMA, Slot::Number(Span::Signed16), Slot::Mark(b'('), Slot::Register(Place::Rs), Slot::Mark(b')')], out),
-        Form::Shift => put(&[Slot::Register(Place::Rd), COMMA, Slot::Register(Place::Rt), COMMA, Slot::Small(Place::Sa)], out),
-        Form::ShiftByRegister => put(&[Slot::Register(Place::Rd), COMMA, Slot::Register(Place::Rt), COMMA, Slot::Register(Place::Rs)], out),
+        Form::CoprocessorMemory => put(
+            &[
+                Slot::Small(Place::Rt),
+                COMMA,
+                Slot::Number(Span::Signed16),
+                Slot::Mark(b'('),
+                Slot::Register(Place::Rs),
+                Slot::Mark(b')'),
+            ],
+            out,
+        ),
+        Form::Shift => put(
+            &[
+                Slot::Register(Place::Rd),
+                COMMA,
+                Slot::Register(Place::Rt),
+                COMMA,
+                Slot::Small(Place::Sa),
+            ],
+            out,
+        ),
+        Form::ShiftByRegister => put(
+            &[
+                Slot::Register(Place::Rd),
+                COMMA,
+                Slot::Register(Place::Rt),
+                COMMA,
+                Slot::Register(Place::Rs),
+            ],
+            out,
+        ),
         Form::Source => put(&[Slot::Register(Place::Rs)], out),
-        Form::JumpAndLinkRegister => put(&[Slot::Register(Place::Rd), COMMA, Slot::Register(Place::Rs)], out),
+        Form::JumpAndLinkRegister => put(
+            &[Slot::Register(Place::Rd), COMMA, Slot::Register(Place::Rs)],
+            out,
+        ),
         Form::Code => put(&[Slot::Number(Span::Unsigned20)], out),
         Form::NoOperands => {}
         Form::Destination => put(&[Slot::Register(Place::Rd)], out),
-        Form::TwoSources => put(&[Slot::Register(Place::Rs), COMMA, Slot::Register(Place::Rt)], out),
-        Form::ThreeRegisters => put(&[Slot::Register(Place::Rd), COMMA, Slot::Register(Place::Rs), COMMA, Slot::Register(Place::Rt)], out),
-        Form::TrapRegisters => put(&[Slot::Register(Place::Rs), COMMA, Slot::Register(Place::Rt), COMMA, Slot::Number(Span::Unsigned10)], out),
-        Form::TrapImmediate => put(&[Slot::Register(Place::Rs), COMMA, Slot::Number(Span::Signed16)], out),
+        Form::TwoSources => put(
+            &[Slot::Register(Place::Rs), COMMA, Slot::Register(Place::Rt)],
+            out,
+        ),
+        Form::ThreeRegisters => put(
+            &[
+                Slot::Register(Place::Rd),
+                COMMA,
+                Slot::Register(Place::Rs),
+                COMMA,
+                Slot::Register(Place::Rt),
+            ],
+            out,
+        ),
+        Form::TrapRegisters => put(
+            &[
+                Slot::Register(Place::Rs),
+                COMMA,
+                Slot::Register(Place::Rt),
+                COMMA,
+                Slot::Number(Span::Unsigned10),
+            ],
+            out,
+        ),
+        Form::TrapImmediate => put(
+            &[
+                Slot::Register(Place::Rs),
+                COMMA,
+                Slot::Number(Span::Signed16),
+            ],
+            out,
+        ),
         Form::Cp0Move => put(&[Slot::Register(Place::Rt), COMMA, Slot::Cp0Register], out),
     }
 }
 
-#[tactic(auto, using(crate::proofs::SlotList::slots_shown_append, crate::proofs::SlotList::numbers_more, crate::proofs::SlotList::numbers_last, std::proofs::lemmas::Grind::common_steps))]
 /// Appends a number and so many further ones with commas before them.
+#[tactic(auto, using(crate::proofs::SlotList::slots_shown_append, crate::proofs::SlotList::numbers_more, crate::proofs::SlotList::numbers_last, std::proofs::lemmas::Grind::common_steps))]
 fn put_numbers(span: Span, more: usize, out: &mut Slots)
     requires { array_vec_len out.old + 2 * more + 1 ≤ 64 }
     ensures { slots_shown out.new.items ≡ slots_shown out.old.items ++ law.numbers_expected more (span_shown span) }
@@ -125,9 +238,19 @@ pub fn slots_of(statement: Statement, count: usize) -> Slots
     let mut out = Slots::new();
     match statement {
         Statement::Instruction(row) => put_form(form_of(row), &mut out),
-        Statement::Li => put(&[Slot::Register(Place::Rt), COMMA, Slot::Number(Span::Either32)], &mut out),
+        Statement::Li => put(
+            &[
+                Slot::Register(Place::Rt),
+                COMMA,
+                Slot::Number(Span::Either32),
+            ],
+            &mut out,
+        ),
         Statement::La => put(&[Slot::Register(Place::Rt), COMMA, Slot::Label], &mut out),
-        Statement::Move => put(&[Slot::Register(Place::Rd), COMMA, Slot::Register(Place::Rs)], &mut out),
+        Statement::Move => put(
+            &[Slot::Register(Place::Rd), COMMA, Slot::Register(Place::Rs)],
+            &mut out,
+        ),
         Statement::Branch => put(&[Slot::Target], &mut out),
         Statement::Org => put(&[Slot::Number(Span::Unsigned32)], &mut out),
         Statement::Space => put(&[Slot::Number(Span::Unsigned32)], &mut out),

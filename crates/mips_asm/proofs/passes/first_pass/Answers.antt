@@ -17,15 +17,16 @@ loop-rest-preserved c =
     let number = c.loop-rest.number in
     let place = place_at c.loop-rest.address c.loop-rest.labels in
     let said = line_shown c.in-Ok.line in
-    let laid = laid_on (fault_at base place said) (place_after place said) c.in-Ok-lay_line.next c.lay_line.new.labels c.in-Ok-lay_line.ensures.laid in
-    ( ap (λ p. first_pass base (number + 1) p (layout.lines_of c.split_line-split.result.rest.now)) (sym laid.1)
-      ∙ sym (first_pass_more base number place c.split_line-split.result.line.now (layout.lines_of c.split_line-split.result.rest.now) said (sym c.in-Ok.ensures.reading) laid.0)
-      ∙ ap (first_pass base number place) (sym c.split_line-split.ensures.lines)
-      ∙ c.loop-rest.invariant.0
-    , omega (arith, c.loop-rest.invariant, c.split_line-split.ensures.shorter)
-    , omega arith
-    , c.in-Ok-lay_line.ensures.after
-    , c.in-Ok-lay_line.ensures.near )
+    let laid = laid_on (fault_at base place said) (place_after place said) c.in-Ok-lay_line.next c.lay_line.new.labels c.in-Ok-lay_line.ensures.laid in (
+      ap (λ p. first_pass base (number + 1) p (layout.lines_of c.split_line-split.result.rest.now)) (sym laid.1)
+          ∙ sym (first_pass_more base number place c.split_line-split.result.line.now (layout.lines_of c.split_line-split.result.rest.now) said (sym c.in-Ok.ensures.reading) laid.0)
+          ∙ ap (first_pass base number place) (sym c.split_line-split.ensures.lines)
+          ∙ c.loop-rest.invariant.0,
+      omega (arith, c.loop-rest.invariant, c.split_line-split.ensures.shorter),
+      omega arith,
+      c.in-Ok-lay_line.ensures.after,
+      c.in-Ok-lay_line.ensures.near,
+    )
 
 pub returns : goal.returns
 returns c =

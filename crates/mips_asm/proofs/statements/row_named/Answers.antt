@@ -1,4 +1,4 @@
-use Rattle.std.proofs.Common.{◌≡◌, ◌∙◌, ap, sym, bytes_eq, below_more, arith}
+use Rattle.std.proofs.Common.{◌∙◌, ap, sym, bytes_eq, below_more, arith}
 use Rattle.mips_asm.proofs.RowNames.{row_here, row_nowhere}
 use Rattle.mips_asm.proofs.statements.row_named.Goals as goal
 

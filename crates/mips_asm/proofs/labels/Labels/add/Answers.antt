@@ -13,12 +13,12 @@ returns c =
     let entries = c.self.inside.map.entries in
     let same = c.in_ok-from_slice.ensures.items in
     let none : lookup (λ k. pointwise nat_eq key.items k.items) entries ≡ None =
-        lookup_shown key.items entries
-        ∙ ap (λ name. label_at (labels_shown entries) name) same
-        ∙ ap (λ labels. label_at labels c.args.name.now) c.self.view_is
-        ∙ c.requires in
+    lookup_shown key.items entries
+    ∙ ap (λ name. label_at (labels_shown entries) name) same
+    ∙ ap (λ labels. label_at labels c.args.name.now) c.self.view_is
+    ∙ c.requires in
     ap labels_shown c.in_ok-insert.ensures.entries
     ∙ ap labels_shown (insert_entry-new (λ k q. pointwise nat_eq k.items q.items) c.self.inside.map key c.args.address none)
     ∙ labels_shown_append entries key c.args.address
-    ∙ ap (λ labels. labels ++ (key.items , c.args.address) ∷ []) c.self.view_is
-    ∙ ap (λ name. c.args.self.now ++ (name , c.args.address) ∷ []) same
+    ∙ ap (λ labels. labels ++ (key.items, c.args.address) ∷ []) c.self.view_is
+    ∙ ap (λ name. c.args.self.now ++ (name, c.args.address) ∷ []) same
