@@ -1,0 +1,8 @@
+mod Examples
+pub mod LabelList
+pub mod Bounds
+pub mod SlotList
+pub mod InstRows
+pub mod LineList
+pub mod RowNames
+pub mod PassList

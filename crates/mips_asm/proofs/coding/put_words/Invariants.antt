@@ -1,0 +1,6 @@
+use Rattle.std.proofs.Common.{◌≡◌, ◌++◌, drop}
+use Rattle.mips_asm.specs.Assembly.{bytes_of_words}
+use Rattle.mips_asm.proofs.coding.put_words.Given as goal
+
+abbrev pub invariant-loop-word : goal.invariant-loop-word
+invariant-loop-word l = l.bytes.items ++ bytes_of_words (drop l.word-index l.words) ≡ l.initial.bytes.items ++ bytes_of_words l.words

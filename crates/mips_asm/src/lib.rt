@@ -1,0 +1,30 @@
+//! The assembler of a whole source: an image's base, entry and bytes, or its first bad line with the reason.
+//!
+//! A line is cut into tokens by `mips_text`, compared with those that its statement expects, and read to what it says or
+//! to the first reason for which it says nothing. The base of the image is found, with lines that cannot be read counting
+//! as lines without bytes; a first pass gives each line its address and the labels theirs, and a second pass gives each
+//! line its bytes. The definitions stand in specs/: Line.antt (a line), Layout.antt (base, addresses, reasons) and
+//! Assembly.antt (bytes, the two passes, a source). proofs/Examples.antt computes whole sources by them alone.
+//!
+//! Reading order: what a line says, the statements and the tokens that they expect, what operands stand for, the reading
+//! of a line, the lines of a source, labels, addresses, bytes, the passes.
+#![tactic(auto)]
+
+mod built;
+mod coding;
+mod items;
+mod labels;
+mod layout;
+mod matching;
+mod operands;
+mod passes;
+mod reading;
+mod slots;
+mod sources;
+mod statements;
+
+pub use built::{AsmFault, Built};
+pub use passes::assemble;
+
+#[cfg(test)]
+mod tests;

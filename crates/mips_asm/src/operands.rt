@@ -1,0 +1,353 @@
+//! What the operands of a statement stand for.
+
+ghost use Rattle.std.specs.Prelude.{◌≡◌, ◌<◌, ◌≤◌, ◌+◌, ◌++◌, ◌%◌, ◌^◌, [], pos, negsuc, ◌≤ℤ◌, length, IfSome};
+ghost use Rattle.std.specs.List.{All};
+ghost use Rattle.arrayvec.specs.ArrayVec.{array_vec_len};
+ghost use Rattle.mips3_table.specs.Instructions.{FitsWidths, widths_at};
+ghost use Rattle.mips3_table.specs.Operands.{widths_of};
+ghost use Rattle.mips_text.specs.Forms as forms;
+ghost use Rattle.mips_text.specs.Tokens.{IsWithin};
+ghost use Rattle.mips_text.specs.Values.{number_of as number_law};
+ghost use Rattle.mips_asm.specs.Line as law;
+ghost use Rattle.mips_asm.specs.Shown.{IsSound, item_shown, target_shown};
+ghost use Rattle.mips_asm.specs.StatementsOf.{AreWidths, IsStatement, field_shown, slot_shown, slots_shown, statement_shown};
+
+use crate::items::{Goal, Item};
+use crate::matching::text_of;
+use crate::slots::{Place, Slot, slots_of};
+use crate::statements::Statement;
+use arrayvec::ArrayVec;
+use mips_text::{Token, TokenKind, cp0_register_of, number_of, register_of};
+use mips3_table::{Form, Inst, form_of};
+
+/// The rows of `beq` and `or` in the table.
+const BEQ: u8 = 2;
+
+const OR: u8 = 91;
+
+/// The number of a text that lies in a field, 0 for one of 2^32 or more.
+fn number_value(text: &[u8]) -> i64
+    ensures value { result ≡ law.number_value text.now }
+    ensures low { negsuc 4294967295 ≤ℤ result }
+    ensures high { result ≤ℤ pos 4294967295 }
+{
+    number_of(text).unwrap_or(0)
+}
+
+/// So many low bits of a number in two's complement.
+fn low_bits(width: u8, number: i64) -> u32
+    requires { width ≤ 32 }
+    ensures { result ≡ law.in_bits width number }
+{
+    number.rem_euclid(1i64 << width) as u32
+}
+
+fn register_value(text: &[u8]) -> u8
+    ensures value { result ≡ law.register_value text.now }
+    ensures small { result < 32 }
+{
+    register_of(text).unwrap_or(0) % 32
+}
+
+fn cp0_register_value(text: &[u8]) -> u8
+    ensures { result ≡ law.cp0_register_value text.now }
+{
+    cp0_register_of(text).unwrap_or(0) % 32
+}
+
+/// An instruction with another value in a field.
+fn with_field(place: Place, value: u32, inst: Inst) -> Inst
+    ensures { result ≡ law.with_field (field_shown place) value inst }
+{
+    let small = (value % 32) as u8;
+    match place {
+        Place::Rs => Inst { rs: small, ..inst },
+        Place::Rt => Inst { rt: small, ..inst },
+        Place::Rd => Inst { rd: small, ..inst },
+        Place::Sa => Inst { sa: small, ..inst },
+        Place::Imm => Inst { imm: value, ..inst },
+    }
+}
+
+/// An instruction with the field that a token gives.
+fn with_operand(slot: &Slot, text: &[u8], inst: Inst) -> Inst
+    ensures { result ≡ law.with_operand (slot_shown slot.now) text.now inst }
+{
+    match slot {
+        Slot::Register(place) => with_field(*place, u32::from(register_value(text)), inst),
+        Slot::Cp0Register => with_field(Place::Rd, u32::from(cp0_register_value(text)), inst),
+        Slot::Small(place) => with_field(*place, low_bits(32, number_value(text)), inst),
+        Slot::Number(_) | Slot::AnyNumber => {
+            with_field(Place::Imm, low_bits(32, number_value(text)), inst)
+        }
+        Slot::Target | Slot::Label | Slot::Text | Slot::Mark(_) => inst,
+    }
+}
+
+/// An instruction with the fields that tokens give.
+fn with_operands(line: &[u8], slots: &[Slot], list: &[Token], inst: Inst) -> Inst
+    requires { All (IsWithin (length line.now)) list.now }
+    ensures { result ≡ law.with_operands line.now (slots_shown slots.now) list.now inst }
+{
+    let [slot, slots @ ..] = slots else {
+        return inst;
+    };
+    let [token, list @ ..] = list else {
+        return inst;
+    };
+    let next = with_operand(slot, text_of(line, token), inst);
+    with_operands(line, slots, list, next)
+}
+
+/// How many bits each field of a form has.
+#[derive(Clone, Copy)]
+pub struct Bits {
+    rs: u8,
+    rt: u8,
+    rd: u8,
+    sa: u8,
+    number: u8,
+}
+
+fn widths(rs: u8, rt: u8, rd: u8, sa: u8, number: u8) -> Bits
+    ensures { result ≡ record { rs = rs; rt = rt; rd = rd; sa = sa; number = number } }
+{
+    Bits {
+        rs,
+        rt,
+        rd,
+        sa,
+        number,
+    }
+}
+
+/// The bits of the fields of a form.
+fn bits_of(form: Form) -> Bits
+    ensures { AreWidths (widths_of form) result }
+{
+    match form {
+        Form::Target | Form::CoprocessorNumber => widths(0, 0, 0, 0, 26),
+        Form::CompareBranch
+        | Form::SignedImmediate
+        | Form::UnsignedImmediate
+        | Form::Memory
+        | Form::CacheOperation
+        | Form::CoprocessorMemory => widths(5, 5, 0, 0, 16),
+        Form::ZeroBranch | Form::TrapImmediate => widths(5, 0, 0, 0, 16),
+        Form::UpperImmediate => widths(0, 5, 0, 0, 16),
+        Form::Shift => widths(0, 5, 5, 5, 0),
+        Form::ShiftByRegister | Form::ThreeRegisters => widths(5, 5, 5, 0, 0),
+        Form::Source => widths(5, 0, 0, 0, 0),
+        Form::JumpAndLinkRegister => widths(5, 0, 5, 0, 0),
+        Form::Code => widths(0, 0, 0, 0, 20),
+        Form::NoOperands => widths(0, 0, 0, 0, 0),
+        Form::Destination => widths(0, 0, 5, 0, 0),
+        Form::TwoSources => widths(5, 5, 0, 0, 0),
+        Form::TrapRegisters => widths(5, 5, 0, 0, 10),
+        Form::Cp0Move => widths(0, 5, 5, 0, 0),
+    }
+}
+
+/// So many low bits of a register's field.
+fn cut(field: u8, width: u8) -> u8
+    requires { width ≤ 5 }
+    ensures { result ≡ field % 2 ^ width }
+{
+    field % (1u8 << width)
+}
+
+/// An instruction whose fields are the low bits that its form has.
+fn fitted(form: Form, inst: Inst) -> Inst
+    ensures { result ≡ law.fitted (widths_of form) inst }
+{
+    let bits = bits_of(form);
+    Inst {
+        row: inst.row,
+        rs: cut(inst.rs, bits.rs),
+        rt: cut(inst.rt, bits.rt),
+        rd: cut(inst.rd, bits.rd),
+        sa: cut(inst.sa, bits.sa),
+        imm: inst.imm % (1u32 << bits.number),
+    }
+}
+
+/// The instruction of a row with every field 0.
+pub fn bare(row: u8) -> Inst
+    ensures { result ≡ law.bare row }
+{
+    Inst {
+        row,
+        rs: 0,
+        rt: 0,
+        rd: 0,
+        sa: 0,
+        imm: 0,
+    }
+}
+
+/// The instruction of a row with the operands of a statement.
+#[tactic(auto, using(crate::proofs::InstRows::operands_row))]
+fn inst_of(line: &[u8], row: u8, statement: Statement, operands: &[Token]) -> Inst
+    requires few { length operands.now < 64 }
+    requires row { row < 129 }
+    requires statement { IsStatement statement }
+    requires within { All (IsWithin (length line.now)) operands.now }
+    ensures value { result ≡ law.inst_of line.now row (statement_shown statement) operands.now }
+    ensures row { result.row ≡ row }
+    ensures sound { FitsWidths (widths_at row) result }
+{
+    let slots = slots_of(statement, operands.len());
+    fitted(
+        form_of(row),
+        with_operands(line, &slots, operands, bare(row)),
+    )
+}
+
+/// The text of the token at an index.
+fn text_at<'a>(line: &'a [u8], list: &[Token], at: usize) -> &'a [u8]
+    requires { All (IsWithin (length line.now)) list.now }
+    ensures { result.now ≡ law.text_at line.now list.now at }
+{
+    if at < list.len() {
+        text_of(line, &list[at])
+    } else {
+        &[]
+    }
+}
+
+/// The number of a text that is not negative.
+fn natural_value(text: &[u8]) -> u32
+    ensures { result ≡ law.natural (law.number_value text.now) }
+{
+    number_value(text).max(0) as u32
+}
+
+/// What a token names as a target.
+fn target_of<'a>(kind: TokenKind, text: &'a [u8]) -> Goal<'a>
+    ensures { target_shown result ≡ law.target_of kind text.now }
+{
+    if matches!(kind, TokenKind::Name) {
+        return Goal::Label(text);
+    }
+    Goal::Address(natural_value(text))
+}
+
+/// The target at an index.
+fn target_at<'a>(line: &'a [u8], list: &[Token], at: usize) -> Goal<'a>
+    requires { All (IsWithin (length line.now)) list.now }
+    ensures { target_shown result ≡ law.target_at line.now list.now at }
+{
+    if at < list.len() {
+        target_of(list[at].kind, text_of(line, &list[at]))
+    } else {
+        Goal::Address(0)
+    }
+}
+
+/// Appends the numbers among these tokens, as 32 bits each.
+fn put_words(line: &[u8], list: &[Token], out: &mut ArrayVec<u32, 64>)
+    requires room { array_vec_len out.old + length list.now ≤ 64 }
+    requires within { All (IsWithin (length line.now)) list.now }
+    ensures { out.new.items ≡ out.old.items ++ law.numbers_of 32 line.now list.now }
+{
+    let [token, list @ ..] = list else {
+        return;
+    };
+    if matches!(token.kind, TokenKind::Number) {
+        out.push(low_bits(32, number_value(text_of(line, token))));
+    }
+    put_words(line, list, out);
+}
+
+/// Appends the numbers among these tokens, as 8 bits each.
+fn put_bytes(line: &[u8], list: &[Token], out: &mut ArrayVec<u8, 64>)
+    requires room { array_vec_len out.old + length list.now ≤ 64 }
+    requires within { All (IsWithin (length line.now)) list.now }
+    ensures { out.new.items ≡ out.old.items ++ law.numbers_of 8 line.now list.now }
+{
+    let [token, list @ ..] = list else {
+        return;
+    };
+    if matches!(token.kind, TokenKind::Number) {
+        out.push(low_bits(8, number_value(text_of(line, token))) as u8);
+    }
+    put_bytes(line, list, out);
+}
+
+/// The alignment of a number's text.
+#[tactic(auto, using(crate::proofs::Bounds::far_alignment))]
+fn alignment_of(text: &[u8]) -> Option<u8>
+    ensures value { result ≡ law.alignment_of (number_law text.now) }
+    ensures small { IfSome result (λ power. power ≤ 12) }
+{
+    match number_of(text) {
+        Some(number) if 0 <= number && number <= 12 => Some(number as u8),
+        _ => None,
+    }
+}
+
+/// A statement of an instruction, by its form.
+fn item_by_form<'a>(line: &'a [u8], form: Form, inst: Inst, operands: &[Token]) -> Item<'a>
+    requires within { All (IsWithin (length line.now)) operands.now }
+    requires row { inst.row < 129 }
+    requires form { widths_of form ≡ widths_at inst.row }
+    requires sound { FitsWidths (widths_of form) inst }
+    ensures value { item_shown result ≡ law.item_by_form line.now form inst operands.now }
+    ensures sound { IsSound result }
+{
+    match form {
+        Form::Target => Item::JumpTo(inst, target_at(line, operands, 0)),
+        Form::CompareBranch => Item::BranchTo(inst, target_at(line, operands, 4)),
+        Form::ZeroBranch => Item::BranchTo(inst, target_at(line, operands, 2)),
+        _ => Item::Plain(inst),
+    }
+}
+
+/// What a statement puts, by operands that have its shape.
+#[tactic(auto, unfolding(crate::specs::Line::item_of))]
+pub fn item_of<'a>(line: &'a [u8], statement: Statement, operands: &[Token]) -> Item<'a>
+    requires few { length operands.now < 64 }
+    requires row { IsStatement statement }
+    requires within { All (IsWithin (length line.now)) operands.now }
+    ensures value { item_shown result ≡ law.item_of line.now (statement_shown statement) operands.now }
+    ensures sound { IsSound result }
+{
+    match statement {
+        Statement::Instruction(row) => {
+            let inst = inst_of(line, row, statement, operands);
+            item_by_form(line, form_of(row), inst, operands)
+        }
+        Statement::Li => {
+            let register = register_value(text_at(line, operands, 0));
+            Item::LoadNumber(
+                register,
+                low_bits(32, number_value(text_at(line, operands, 2))),
+            )
+        }
+        Statement::La => Item::LoadLabel(
+            register_value(text_at(line, operands, 0)),
+            text_at(line, operands, 2),
+        ),
+        Statement::Move => Item::Plain(inst_of(line, OR, statement, operands)),
+        Statement::Nop => {
+            let mut words = ArrayVec::new();
+            words.push(0);
+            Item::Words(words)
+        }
+        Statement::Branch => Item::BranchTo(bare(BEQ), target_at(line, operands, 0)),
+        Statement::Org => Item::Origin(natural_value(text_at(line, operands, 0))),
+        Statement::Word => {
+            let mut words = ArrayVec::new();
+            put_words(line, operands, &mut words);
+            Item::Words(words)
+        }
+        Statement::Byte => {
+            let mut bytes = ArrayVec::new();
+            put_bytes(line, operands, &mut bytes);
+            Item::Bytes(bytes)
+        }
+        Statement::Space => Item::Zeros(natural_value(text_at(line, operands, 0))),
+        Statement::Align => Item::Aligned(alignment_of(text_at(line, operands, 0))),
+        Statement::Ascii => Item::Text(text_at(line, operands, 0)),
+    }
+}

@@ -1,0 +1,147 @@
+//! The reading of a line.
+
+ghost use Rattle.std.specs.Prelude.{◌≡◌, ◌<◌, ◌≤◌, ◌&&◌, length, Some, None, IfOk, IfSome};
+ghost use Rattle.std.specs.List.{All};
+ghost use Rattle.mips_text.specs.Forms as forms;
+ghost use Rattle.mips_text.specs.Tokens.{IsWithin};
+ghost use Rattle.mips_asm.specs.Line as law;
+ghost use Rattle.mips_asm.specs.Shown.{IsSound, IsSoundLine, label_shown, reading_shown, statement_shown as items_shown};
+ghost use Rattle.mips_asm.specs.StatementsOf.{IsStatement, statement_shown};
+
+use crate::items::{Item, Line};
+use crate::matching::{all_agree, all_in_range, some_unknown, text_of};
+use crate::operands::item_of;
+use crate::slots::slots_of;
+use crate::statements::{Statement, statement_named};
+use arrayvec::ArrayVec;
+use mips_text::{AsmWhy, Token, TokenKind, tokens};
+
+/// The first reason for which these tokens are not the operands of a statement.
+#[tactic(auto, unfolding(crate::specs::Line::operands_fault))]
+fn operands_fault(line: &[u8], statement: Statement, operands: &[Token]) -> Option<AsmWhy>
+    requires few { length operands.now < 64 }
+    requires row { IsStatement statement }
+    requires within { All (IsWithin (length line.now)) operands.now }
+    ensures { result ≡ law.operands_fault line.now (forms.shape_of (statement_shown statement)) operands.now }
+{
+    let slots = slots_of(statement, operands.len());
+    let unknown = some_unknown(line, &slots, operands);
+    if unknown {
+        return Some(AsmWhy::Unknown);
+    }
+    let agree = all_agree(line, &slots, operands);
+    if !agree {
+        return Some(AsmWhy::Operand);
+    }
+    let fit = all_in_range(line, &slots, operands);
+    if fit { None } else { Some(AsmWhy::Range) }
+}
+
+/// Whether a label has more than 64 characters.
+fn is_too_long(label: &Option<&[u8]>) -> bool
+    ensures { result ≡ law.is_too_long (label_shown label.now) }
+{
+    match label {
+        Some(name) => name.len() > 64,
+        None => false,
+    }
+}
+
+/// A line that has no other fault than, maybe, too long a label.
+fn with_label<'a>(label: Option<&'a [u8]>, item: Option<Item<'a>>) -> Result<Line<'a>, AsmWhy>
+    requires { IfSome item IsSound }
+    ensures reading { reading_shown result ≡ law.with_label (label_shown label.entry) (items_shown item.entry) }
+    ensures sound { IfOk result IsSoundLine }
+{
+    let long = is_too_long(&label);
+    if long {
+        return Err(AsmWhy::Range);
+    }
+    Ok(Line { label, item })
+}
+
+/// A statement with its operands.
+fn read_operands<'a>(
+    line: &'a [u8],
+    label: Option<&'a [u8]>,
+    statement: Statement,
+    operands: &[Token],
+) -> Result<Line<'a>, AsmWhy>
+    requires few { length operands.now < 64 }
+    requires row { IsStatement statement }
+    requires within { All (IsWithin (length line.now)) operands.now }
+    ensures reading { reading_shown result ≡ law.statement_by_name line.now (label_shown label.entry) (Some (statement_shown statement)) operands.now }
+    ensures sound { IfOk result IsSoundLine }
+{
+    if let Some(why) = operands_fault(line, statement, operands) {
+        return Err(why);
+    }
+    with_label(label, Some(item_of(line, statement, operands)))
+}
+
+/// A statement, which begins with its name.
+#[tactic(auto, unfolding(crate::specs::Line::read_statement))]
+fn read_statement<'a>(
+    line: &'a [u8],
+    label: Option<&'a [u8]>,
+    list: &[Token],
+) -> Result<Line<'a>, AsmWhy>
+    requires few { length list.now ≤ 64 }
+    requires within { All (IsWithin (length line.now)) list.now }
+    ensures reading { reading_shown result ≡ law.read_statement line.now (label_shown label.entry) list.now }
+    ensures sound { IfOk result IsSoundLine }
+{
+    let [name, operands @ ..] = list else {
+        return with_label(label, None);
+    };
+    if !matches!(name.kind, TokenKind::Name) {
+        return Err(AsmWhy::Operand);
+    }
+    match statement_named(text_of(line, name)) {
+        Some(statement) => read_operands(line, label, statement, operands),
+        None => Err(AsmWhy::Unknown),
+    }
+}
+
+/// Whether two tokens are a name and `:`.
+fn is_label(line: &[u8], name: &Token, colon: &Token) -> bool
+    requires { IsWithin (length line.now) colon.now }
+    ensures { result ≡ law.is_name name.now.kind && law.is_colon colon.now.kind (forms.token_text line.now colon.now) }
+{
+    if !matches!(name.kind, TokenKind::Name) || !matches!(colon.kind, TokenKind::Mark) {
+        return false;
+    }
+    text_of(line, colon)[0] == b':'
+}
+
+/// A line of these tokens.
+fn read_tokens<'a>(line: &'a [u8], list: &[Token]) -> Result<Line<'a>, AsmWhy>
+    requires few { length list.now ≤ 64 }
+    requires within { All (IsWithin (length line.now)) list.now }
+    ensures reading { reading_shown result ≡ law.read_cut line.now None (law.parts_of line.now list.now) }
+    ensures sound { IfOk result IsSoundLine }
+{
+    let [name, colon, rest @ ..] = list else {
+        return read_statement(line, None, list);
+    };
+    let labelled = is_label(line, name, colon);
+    if labelled {
+        read_statement(line, Some(text_of(line, name)), rest)
+    } else {
+        read_statement(line, None, list)
+    }
+}
+
+/// What a line says, or the first reason for which it says nothing.
+#[tactic(auto, unfolding(crate::specs::Line::read_line))]
+pub fn read_line(line: &[u8]) -> Result<Line, AsmWhy>
+    requires { length line.now ≤ 4294967294 }
+    ensures reading { reading_shown result ≡ law.read_line line.now }
+    ensures sound { IfOk result IsSoundLine }
+{
+    let mut list = ArrayVec::new();
+    if let Some(why) = tokens(line, &mut list) {
+        return Err(why);
+    }
+    read_tokens(line, &list)
+}

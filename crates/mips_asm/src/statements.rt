@@ -1,0 +1,112 @@
+//! The statements of a source, by their names.
+
+ghost use Rattle.std.specs.Prelude.{◌≡◌, ◌<◌, IfSome, bytes_eq};
+ghost use Rattle.mips_text.specs.Forms as forms;
+ghost use Rattle.mips_asm.specs.StatementsOf.{IsStatement, directive_of, name_shown};
+
+use mips3_table::name_of;
+
+/// A statement, as its name tells it.
+#[derive(Clone, Copy)]
+pub enum Statement {
+    /// An instruction, by its row's number.
+    Instruction(u8),
+    Li,
+    La,
+    Move,
+    Nop,
+    Branch,
+    Org,
+    Word,
+    Byte,
+    Space,
+    Align,
+    Ascii,
+}
+
+/// Whether a text is this name.
+fn reads(text: &[u8], name: &str) -> bool
+    ensures { result ≡ bytes_eq text.now name.now }
+{
+    text == name.as_bytes()
+}
+
+/// The row of a name.
+#[tactic(auto, unfolding(mips_text::specs::Forms::row_named))]
+fn row_named(text: &[u8]) -> Option<u8>
+    ensures value { result ≡ forms.row_named text.now }
+    ensures row { IfSome result (λ row. row < 129) }
+{
+    for row in 0..129 {
+        let name = name_of(row);
+        let is_it = reads(text, name);
+        if is_it {
+            return Some(row);
+        }
+    }
+    None
+}
+
+/// The directive of a name, or the instruction.
+fn directive_named(text: &[u8]) -> Option<Statement>
+    ensures value { name_shown result ≡ directive_of text.now }
+    ensures row { IfSome result IsStatement }
+{
+    let is_org = reads(text, ".org");
+    if is_org {
+        return Some(Statement::Org);
+    }
+    let is_word = reads(text, ".word");
+    if is_word {
+        return Some(Statement::Word);
+    }
+    let is_byte = reads(text, ".byte");
+    if is_byte {
+        return Some(Statement::Byte);
+    }
+    let is_space = reads(text, ".space");
+    if is_space {
+        return Some(Statement::Space);
+    }
+    let is_align = reads(text, ".align");
+    if is_align {
+        return Some(Statement::Align);
+    }
+    let is_ascii = reads(text, ".ascii");
+    if is_ascii {
+        return Some(Statement::Ascii);
+    }
+    match row_named(text) {
+        Some(row) => Some(Statement::Instruction(row)),
+        None => None,
+    }
+}
+
+/// The statement of a name.
+#[tactic(auto, unfolding(mips_text::specs::Forms::statement_named))]
+pub fn statement_named(text: &[u8]) -> Option<Statement>
+    ensures value { name_shown result ≡ forms.statement_named text.now }
+    ensures row { IfSome result IsStatement }
+{
+    let is_li = reads(text, "li");
+    if is_li {
+        return Some(Statement::Li);
+    }
+    let is_la = reads(text, "la");
+    if is_la {
+        return Some(Statement::La);
+    }
+    let is_move = reads(text, "move");
+    if is_move {
+        return Some(Statement::Move);
+    }
+    let is_nop = reads(text, "nop");
+    if is_nop {
+        return Some(Statement::Nop);
+    }
+    let is_branch = reads(text, "b");
+    if is_branch {
+        return Some(Statement::Branch);
+    }
+    directive_named(text)
+}
