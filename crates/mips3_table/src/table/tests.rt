@@ -133,9 +133,14 @@ const ROWS: [(&str, u32, bool); 129] = [
     ("eret", (33 << 25) + 24, false),
 ];
 
+// The table, of which a proof knows nothing: so the proof of a test does not read it.
+fn rows_in_order() -> &'static [(&'static str, u32, bool)] {
+    &ROWS
+}
+
 #[test]
 fn each_row_has_its_number_and_its_name(rt: HostRuntime) {
-    for (place, (name, word, is_64_bit_row)) in ROWS.iter().enumerate() {
+    for (place, (name, word, is_64_bit_row)) in rows_in_order().iter().enumerate() {
         match row_of(*word) {
             Some(row) => {
                 assert_eq!(rt; row as usize, place, "the row of {word:08x}");
@@ -164,10 +169,14 @@ const RESERVED: [u32; 32] = [
     0x42000000, 0x42000003, 0x42000009, 0x42000038,
 ];
 
+fn reserved_words() -> &'static [u32] {
+    &RESERVED
+}
+
 #[test]
 fn words_beside_the_rows_are_reserved(rt: HostRuntime) {
-    for word in RESERVED {
-        assert!(rt; row_of(word).is_none(), "{word:08x} has a row");
+    for word in reserved_words() {
+        assert!(rt; row_of(*word).is_none(), "{word:08x} has a row");
     }
 }
 
