@@ -36,8 +36,8 @@ room_left : (base : ℕ) (place : Place) (said : Line) → fault_at base place s
 unfolding fault_at
 room_left base place said none =
     at_most most_bytes (place.address + size_of place.address said.item - base)
-        (not_large (moves_wrongly base place.address said.item) (nat_lt most_bytes (place.address + size_of place.address said.item - base))
-            (cond (stands_twice place.labels said.label) (Some why.Twice) (cond (breaks_alignment place.address said) (Some why.Align) None)) none)
+    (not_large (moves_wrongly base place.address said.item) (nat_lt most_bytes (place.address + size_of place.address said.item - base))
+    (cond (stands_twice place.labels said.label) (Some why.Twice) (cond (breaks_alignment place.address said) (Some why.Align) None)) none)
 
 small_image : (known all : List (List ℕ × ℕ)) (base number : ℕ) (place : Place) (lines : List (List ℕ)) (bytes : List ℕ) → base ≤ place.address → place.address ≤ base + 8388608 → first_pass base number place lines ≡ Laid all → second_pass known number place.address lines ≡ Filled bytes → place.address + length bytes ≤ base + 8388608
 small_image known all base number place [] bytes after near laid filled =
@@ -57,11 +57,13 @@ small_image known all base number place (line ∷ lines) bytes after near laid f
         let room : place.address + size_of place.address said.item - base ≤ 8388608 = room_left base place said holds in
         let next : second_pass known (number + 1) (place.address + size_of place.address said.item) lines ≡ Filled rest = ap (λ reading. second_pass known (number + 1) (place.address + size_of place.address (item_read reading)) lines) (sym is) ∙ f in
         let whole_rest : place.address + size_of place.address said.item + length rest ≤ base + 8388608 =
-            hyp (place_after place said) rest (omega arith) (omega arith) (sym (first_pass_more base number place line lines said is holds) ∙ laid) next in
+        hyp (place_after place said) rest (omega arith) (omega arith) (sym (first_pass_more base number place line lines said is holds) ∙ laid) next in
         omega arith
+
     by_fault : ((next : Place) (rest : List ℕ) → base ≤ next.address → next.address ≤ base + 8388608 → first_pass base (number + 1) next lines ≡ Laid all → second_pass known (number + 1) next.address lines ≡ Filled rest → next.address + length rest ≤ base + 8388608) → (said : Line) → read_line line ≡ Read said → (fault : Option AsmWhy) → fault_at base place said ≡ fault → place.address + length bytes ≤ base + 8388608
     by_fault hyp said is (Some reason) holds = absurd (never_laid number reason all (sym (first_pass_fault base number place line lines said reason is holds) ∙ laid))
     by_fault hyp said is None holds = by_pass hyp said is holds (coded_of known place.address (item_read (read_line line))) refl (second_pass known (number + 1) (place.address + size_of place.address (item_read (read_line line))) lines) refl
+
     by_reading : ((next : Place) (rest : List ℕ) → base ≤ next.address → next.address ≤ base + 8388608 → first_pass base (number + 1) next lines ≡ Laid all → second_pass known (number + 1) next.address lines ≡ Filled rest → next.address + length rest ≤ base + 8388608) → (reading : Reading) → read_line line ≡ reading → place.address + length bytes ≤ base + 8388608
     by_reading hyp (Refused reason) is = absurd (never_laid number reason all (sym (first_pass_refused base number place line lines reason is) ∙ laid))
     by_reading hyp (Read said) is = by_fault hyp said is (fault_at base place said) refl
