@@ -6,3 +6,4 @@ pub mod InstRows
 pub mod LineList
 pub mod RowNames
 pub mod PassList
+pub mod Sizes

@@ -62,7 +62,7 @@ pub second_pass_nothing : (labels : List (List ℕ × ℕ)) (number address : �
 unfolding second_pass
 second_pass_nothing labels number address = refl
 
-one_filled : (labels : List (List ℕ × ℕ)) (number address : ℕ) (line : List ℕ) (lines : List (List ℕ)) → second_pass labels number address (line ∷ lines) ≡ fill_line number (coded_of labels address (item_read (read_line line))) (second_pass labels (number + 1) (address + size_of address (item_read (read_line line))) lines)
+pub one_filled : (labels : List (List ℕ × ℕ)) (number address : ℕ) (line : List ℕ) (lines : List (List ℕ)) → second_pass labels number address (line ∷ lines) ≡ fill_line number (coded_of labels address (item_read (read_line line))) (second_pass labels (number + 1) (address + size_of address (item_read (read_line line))) lines)
 unfolding second_pass
 one_filled labels number address line lines = refl
 
@@ -122,7 +122,7 @@ line_length : (labels : List (List ℕ × ℕ)) (address : ℕ) (item : Option I
 line_length labels address (Some item) = item_length labels address item
 line_length labels address None = refl
 
-given_length : (labels : List (List ℕ × ℕ)) (address : ℕ) (item : Option Item) (bytes : List ℕ) → coded_of labels address item ≡ Given bytes → size_of address item ≡ length bytes
+pub given_length : (labels : List (List ℕ × ℕ)) (address : ℕ) (item : Option Item) (bytes : List ℕ) → coded_of labels address item ≡ Given bytes → size_of address item ≡ length bytes
 given_length labels address item bytes is = sym (subst (λ coded. HasLength coded (size_of address item)) is (line_length labels address item))
 
 -- the pass goes on after the bytes of a line

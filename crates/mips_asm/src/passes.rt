@@ -156,10 +156,11 @@ fn fill(base: u32, labels: &Labels, source: &[u8], bytes: &mut Vec<u8>) -> Resul
 }
 
 /// The image of a source, or its first bad line. A source has at most 4294967294 bytes.
-#[tactic(auto, unfolding(crate::specs::Assembly::assembled))]
+#[tactic(auto, using(crate::proofs::Sizes::image_size), unfolding(crate::specs::Assembly::assembled))]
 pub fn assemble(alloc: Global, source: &[u8]) -> Result<Built, AsmFault>
     requires { length source.now ≤ 4294967294 }
     ensures built { IfOk result (λ built. law.assembled source.now ≡ law.Image built.base built.entry built.bytes.items) }
+    ensures size { IfOk result (λ built. length built.bytes.items ≤ 8388608) }
     ensures bad { IfErr result (λ fault. IsRefused (law.assembled source.now) fault) }
 {
     let base = base_of(source);

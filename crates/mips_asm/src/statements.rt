@@ -1,10 +1,10 @@
 //! The statements of a source, by their names.
 
-ghost use Rattle.std.specs.Prelude.{◌≡◌, ◌<◌, IfSome, bytes_eq};
+ghost use Rattle.std.specs.Prelude.{◌≡◌, IfSome, bytes_eq};
 ghost use Rattle.mips_text.specs.Forms as forms;
 ghost use Rattle.mips_asm.specs.StatementsOf.{IsStatement, directive_of, name_shown};
 
-use mips3_table::name_of;
+use mips_text::row_named;
 
 /// A statement, as its name tells it.
 #[derive(Clone, Copy)]
@@ -31,23 +31,8 @@ fn reads(text: &[u8], name: &str) -> bool
     text == name.as_bytes()
 }
 
-/// The row of a name.
-#[tactic(auto, unfolding(mips_text::specs::Forms::row_named))]
-fn row_named(text: &[u8]) -> Option<u8>
-    ensures value { result ≡ forms.row_named text.now }
-    ensures row { IfSome result (λ row. row < 129) }
-{
-    for row in 0..129 {
-        let name = name_of(row);
-        let is_it = reads(text, name);
-        if is_it {
-            return Some(row);
-        }
-    }
-    None
-}
-
 /// The directive of a name, or the instruction.
+#[tactic(auto, using(crate::proofs::RowNames::row_within))]
 fn directive_named(text: &[u8]) -> Option<Statement>
     ensures value { name_shown result ≡ directive_of text.now }
     ensures row { IfSome result IsStatement }
