@@ -3,7 +3,7 @@ use Rattle.std.proofs.Common.{◌≡◌, ◌+◌, ◌<◌, ◌^◌, ℕ, ℤ, po
 use Rattle.std.proofs.lemmas.Grind.{common_steps}
 use Rattle.mips_text.specs.Forms.{in_range, Between, unsigned}
 use Rattle.mips_text.specs.Values.{bounded}
-use Rattle.mips_asm.specs.Line.{alignment_of}
+use Rattle.mips_text.specs.Line.{alignment_of}
 use Rattle.mips_asm.specs.declared.slots.Span.{Span}
 use Rattle.mips_asm.specs.declared.slots.Span.TheVariants as span
 use Rattle.mips_asm.specs.StatementsOf.{span_shown}

@@ -10,9 +10,10 @@ use Rattle.mips_text.specs.Names.{register_names, register_of, cp0_names, cp0_re
 use Rattle.mips_text.specs.Values.{number_of, bytes_of_text}
 use Rattle.mips_text.specs.Forms.{row_named, statement_named}
 use Rattle.mips_text.specs.Printed.{branch_target, jump_target}
-use Rattle.mips_asm.specs.Line.{operands_fault, item_of, read_statement, read_line}
+use Rattle.mips_text.specs.Line.{operands_fault, item_of, read_statement, read_line}
 use Rattle.mips_asm.specs.Layout.{base_of, size_at, fault_at}
-use Rattle.mips_asm.specs.Assembly.{Image, Bad, distance_to, word_number, branch_to, jump_to, loading, bytes_of_words, coded_at, first_pass, second_pass, assembled}
+use Rattle.mips_text.specs.Coded.{distance_to, word_number, branch_to, jump_to, loading, bytes_of_words, coded_at}
+use Rattle.mips_asm.specs.Assembly.{Image, Bad, first_pass, second_pass, assembled}
 
 a_short_program : assembled (codes ".org 0xa0010000\nlui t0,0xbf00\nori t1,zero,0x41\nsw t1,0(t0)\nsw t1,32(t0)\nnop\n") ≡ Image 0xa0010000 0xa0010000 (bytes_of_words (0x3c08bf00 ∷ 0x34090041 ∷ 0xad090000 ∷ 0xad090020 ∷ 0 ∷ []))
 unfolding assembled base_of read_line read_statement item_of operands_fault size_at fault_at first_pass second_pass coded_at loading branch_to jump_to distance_to word_number tokens_of cut_from start_of register_of register_names cp0_register_of cp0_names statement_named row_named row_at rows number_of bytes_of_text encoded branch_target jump_target zeros_of

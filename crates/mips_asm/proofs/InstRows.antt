@@ -5,7 +5,7 @@ use Rattle.mips3_table.specs.Instructions.{IsInst}
 use Rattle.mips3_table.specs.Rows.{rows, row_at}
 use Rattle.mips_text.specs.declared.token.Token.{Token}
 use Rattle.mips_text.specs.Forms.{Field, Rs, Rt, Rd, Sa, Imm, Expected, ARegister, ACp0Register, ANumber, ATarget, ALabel, AText, AMark, token_text}
-use Rattle.mips_asm.specs.Line.{with_field, with_operand, with_operands, bare, beq_row}
+use Rattle.mips_text.specs.Line.{with_field, with_operand, with_operands, bare, beq_row}
 
 field_row : (field : Field) (value : ℕ) (inst : Inst) → (with_field field value inst).row ≡ inst.row
 field_row Rs value inst = refl

@@ -5,7 +5,7 @@ use Rattle.std.specs.Cmp.Lexicographic.{pointwise}
 use Rattle.std.specs.Map.{lookup}
 use Rattle.std.specs.declared.vec.Vec.{Vec}
 use Rattle.std.specs.declared.alloc.Global.{Global}
-use Rattle.mips_asm.specs.Layout.{label_at}
+use Rattle.mips_text.specs.Coded.{label_at}
 use Rattle.mips_asm.specs.LabelsOf.{labels_shown}
 
 pub lookup_shown : (name : List ℕ) (entries : List (Vec ℕ Global × ℕ)) → lookup (λ key. pointwise nat_eq name key.items) entries ≡ label_at (labels_shown entries) name

@@ -2,7 +2,7 @@
 use Rattle.std.proofs.Common.{◌≡◌, ◌-◌, ◌<◌, ℕ, zero, suc, List, [], ◌∷◌, ◌++◌, refl, ap, arith}
 use Rattle.mips_text.specs.Forms.{Range, Imm, ANumber, AMark}
 use Rattle.mips_asm.specs.declared.slots.Slot.{Slot}
-use Rattle.mips_asm.specs.Line.{numbers_expected}
+use Rattle.mips_text.specs.Line.{numbers_expected}
 use Rattle.mips_asm.specs.StatementsOf.{slot_shown, slots_shown}
 
 pub slots_shown_append : (front back : List Slot) → slots_shown (front ++ back) ≡ slots_shown front ++ slots_shown back

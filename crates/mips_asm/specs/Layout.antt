@@ -5,7 +5,8 @@
 use Rattle.std.specs.Prelude.{ℕ, ◌+◌, ◌-◌, ◌*◌, ◌%◌, ◌^◌, ◌==◌, nat_lt, nat_le, Bool, true, false, not, ◌&&◌, ◌||◌, if◌then◌else◌, List, [], ◌∷◌, ◌++◌, length, Option, Some, None, is_some, codes, bytes_eq}
 use Rattle.mips_text.specs.declared.reason.AsmWhy.{AsmWhy}
 use Rattle.mips_text.specs.declared.reason.AsmWhy.TheVariants as why
-use Rattle.mips_asm.specs.Line.{Item, Plain, BranchTo, JumpTo, LoadNumber, LoadLabel, Words, Bytes, Zeros, Origin, Aligned, Line, Reading, Read, Refused, read_line}
+use Rattle.mips_text.specs.Line.{Item, Plain, BranchTo, JumpTo, LoadNumber, LoadLabel, Words, Bytes, Zeros, Origin, Aligned, Line, Reading, Read, Refused, read_line}
+use Rattle.mips_text.specs.Coded.{padding_to, label_at}
 
 -- a byte before the lines of what follows it
 abbrev pub before_lines : ℕ → List (List ℕ) → List (List ℕ)
@@ -49,14 +50,6 @@ base_of (line ∷ lines) = base_by (read_line line) (base_of lines)
 
 -- ADDRESSES
 
--- how many zeros lead from an address to a multiple of this power of two
-abbrev pub padding : ℕ → ℕ → ℕ
-padding power address = (2 ^ power - address % 2 ^ power) % 2 ^ power
-
-abbrev pub padding_to : Option ℕ → ℕ → ℕ
-padding_to (Some power) address = padding power address
-padding_to None address = 0
-
 -- how many bytes a statement puts at an address
 unfoldable pub size_at : ℕ → Item → ℕ
 size_at address (Plain inst) = 4
@@ -70,22 +63,19 @@ size_at address (Zeros count) = count
 size_at address (Origin origin) = origin - address
 size_at address (Aligned power) = padding_to power address
 
+-- how many bytes a line puts, if it has a statement
 abbrev pub size_of : ℕ → Option Item → ℕ
 size_of address None = 0
 size_of address (Some item) = size_at address item
 
 -- LABELS
 
--- the address of a label, by the first pair that has its name
-abbrev pub label_at : List (List ℕ × ℕ) → List ℕ → Option ℕ
-label_at [] name = None
-label_at (pair ∷ labels) name = if bytes_eq name pair.0 then Some pair.1 else label_at labels name
-
 -- where the next line stands, and the labels of the lines before, in their order
 pub record Place : Type 0 where
   pub address : ℕ
   pub labels : List (List ℕ × ℕ)
 
+-- the labels with one more, where a line has one
 abbrev pub with_label_at : Option (List ℕ) → ℕ → List (List ℕ × ℕ) → List (List ℕ × ℕ)
 with_label_at None address labels = labels
 with_label_at (Some name) address labels = labels ++ (name, address) ∷ []
@@ -103,6 +93,7 @@ place_after place line = record {
 abbrev pub most_bytes : ℕ
 most_bytes = 8388608
 
+-- an address of kseg0 or kseg1
 abbrev pub is_unmapped : ℕ → Bool
 is_unmapped address = nat_le 0x80000000 address && nat_lt address 0xc0000000
 
@@ -129,10 +120,12 @@ is_of_words (Origin origin) = false
 is_of_words (Aligned power) = false
 is_of_words item = true
 
+-- a statement that cannot stand at this address: at no multiple of 4, or no alignment
 abbrev pub is_misplaced : ℕ → Item → Bool
 is_misplaced address (Aligned None) = true
 is_misplaced address item = is_of_words item && not (address % 4 == 0)
 
+-- the same of a line, if it has a statement
 abbrev pub item_is_misplaced : ℕ → Option Item → Bool
 item_is_misplaced address (Some item) = is_misplaced address item
 item_is_misplaced address None = false

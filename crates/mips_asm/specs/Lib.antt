@@ -1,4 +1,3 @@
-pub mod Line
 pub mod Layout
 pub mod Assembly
 pub mod Shown

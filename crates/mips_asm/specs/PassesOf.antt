@@ -8,6 +8,7 @@ use Rattle.mips_asm.specs.declared.built.AsmFault.TheVariants as fault
 use Rattle.mips_asm.specs.Layout.{Place}
 use Rattle.mips_asm.specs.Assembly.{Assembly, Bad, FirstPass, Laid, Stopped, SecondPass, Filled, Missing}
 
+-- an address with the labels of the lines before it
 abbrev pub place_at : ℕ → List (List ℕ × ℕ) → Place
 place_at address labels = record { address = address; labels = labels }
 
@@ -19,11 +20,13 @@ IsLaid (Some reason) place (Ok address) labels = ⊥
 IsLaid (Some reason) place (Err (Lacks found)) labels = reason ≡ found
 IsLaid fault place (Err Memory) labels = Unit {0}
 
+-- the first pass came to these labels, or to this fault; want of memory says nothing of it
 abbrev pub IsFirstPass : FirstPass → Result (List (List ℕ × ℕ)) AsmFault → Type 0
 IsFirstPass pass (Ok labels) = pass ≡ Laid labels
 IsFirstPass pass (Err (fault.Bad line reason)) = pass ≡ Stopped line reason
 IsFirstPass pass (Err fault.Memory) = Unit {0}
 
+-- the second pass came to these bytes, or to this fault
 abbrev pub IsSecondPass : SecondPass → Result (Unit {0}) AsmFault → List ℕ → Type 0
 IsSecondPass pass (Ok done) bytes = pass ≡ Filled bytes
 IsSecondPass pass (Err (fault.Bad line reason)) bytes = pass ≡ Missing line reason

@@ -13,13 +13,15 @@ use Rattle.mips_asm.specs.declared.items.Item.TheVariants as item
 use Rattle.mips_asm.specs.declared.items.Line.{Line}
 use Rattle.mips_asm.specs.declared.coding.Stop.{Stop}
 use Rattle.mips_asm.specs.declared.coding.Stop.TheVariants as stop
-use Rattle.mips_asm.specs.Line as law
-use Rattle.mips_asm.specs.Assembly.{Coded, Given, Lacking}
+use Rattle.mips_text.specs.Line as law
+use Rattle.mips_text.specs.Coded.{Coded, Given, Lacking}
 
+-- a target as it is defined
 abbrev pub target_shown : Goal → law.Target
 target_shown (goal.Address address) = law.Address address
 target_shown (goal.Label name) = law.Label name.now
 
+-- what a statement puts, as it is defined; a text stands for its bytes
 abbrev pub item_shown : Item → law.Item
 item_shown (item.Plain inst) = law.Plain inst
 item_shown (item.BranchTo inst target) = law.BranchTo inst (target_shown target)
@@ -38,17 +40,21 @@ abbrev pub word_shown : Option ℕ → Coded
 word_shown (Some word) = Given (bytes_of word)
 word_shown None = Lacking why.Range
 
+-- the label of a line
 abbrev pub label_shown : Option (Bor (List ℕ)) → Option (List ℕ)
 label_shown (Some name) = Some name.now
 label_shown None = None
 
+-- what the statement of a line puts, if it has one
 abbrev pub statement_shown : Option Item → Option law.Item
 statement_shown (Some item) = Some (item_shown item)
 statement_shown None = None
 
+-- what a line says
 abbrev pub line_shown : Line → law.Line
 line_shown line = record { label = label_shown line.label; item = statement_shown line.item }
 
+-- the reading of a line
 abbrev pub reading_shown : Result Line AsmWhy → law.Reading
 reading_shown (Ok line) = law.Read (line_shown line)
 reading_shown (Err reason) = law.Refused reason
@@ -73,14 +79,17 @@ abbrev pub IsAppended : Coded → List ℕ → List ℕ → Type 0
 IsAppended (Given more) old new = new ≡ old ++ more
 IsAppended (Lacking reason) old new = ⊥
 
+-- a statement has no bytes for this reason; want of memory says nothing of it
 abbrev pub IsLacking : Coded → Stop → Type 0
 IsLacking coded (stop.Lacks reason) = coded ≡ Lacking reason
 IsLacking coded stop.Memory = Unit {0}
 
+-- the coding of a statement came to this
 abbrev pub IsCoded : Coded → Result (Unit {0}) Stop → List ℕ → List ℕ → Type 0
 IsCoded coded (Ok done) old new = IsAppended coded old new
 IsCoded coded (Err reason) old new = IsLacking coded reason
 
+-- a statement that names no label and has no target
 abbrev pub NeedsNoLabel : Item → Type 0
 NeedsNoLabel (item.BranchTo inst target) = ⊥
 NeedsNoLabel (item.JumpTo inst target) = ⊥

@@ -12,6 +12,7 @@ use Rattle.mips_asm.specs.declared.slots.Span.TheVariants as span
 use Rattle.mips_asm.specs.declared.slots.Slot.{Slot}
 use Rattle.mips_asm.specs.declared.slots.Slot.TheVariants as slot
 
+-- a statement as it is defined
 abbrev pub statement_shown : Statement → forms.Statement
 statement_shown (statement.Instruction row) = forms.Instruction row
 statement_shown statement.Li = forms.Li
@@ -26,6 +27,7 @@ statement_shown statement.Space = forms.Space
 statement_shown statement.Align = forms.Align
 statement_shown statement.Ascii = forms.Ascii
 
+-- the statement of a name, if it has one
 abbrev pub name_shown : Option Statement → Option forms.Statement
 name_shown (Some found) = Some (statement_shown found)
 name_shown None = None
@@ -35,17 +37,7 @@ abbrev pub IsStatement : Statement → Type 0
 IsStatement (statement.Instruction row) = row < 129
 IsStatement found = Unit {0}
 
--- the statement of a name, where it is that of a directive or an instruction
-abbrev pub directive_of : List ℕ → Option forms.Statement
-directive_of name =
-    if bytes_eq name (codes ".org") then Some forms.Org
-    else if bytes_eq name (codes ".word") then Some forms.Word
-    else if bytes_eq name (codes ".byte") then Some forms.Byte
-    else if bytes_eq name (codes ".space") then Some forms.Space
-    else if bytes_eq name (codes ".align") then Some forms.Align
-    else if bytes_eq name (codes ".ascii") then Some forms.Ascii
-    else option_map forms.Instruction (forms.row_named name)
-
+-- a field of an instruction
 abbrev pub field_shown : Place → forms.Field
 field_shown place.Rs = forms.Rs
 field_shown place.Rt = forms.Rt
@@ -53,6 +45,7 @@ field_shown place.Rd = forms.Rd
 field_shown place.Sa = forms.Sa
 field_shown place.Imm = forms.Imm
 
+-- the numbers of a span
 abbrev pub span_shown : Span → forms.Range
 span_shown span.Unsigned10 = forms.unsigned 10
 span_shown span.Unsigned16 = forms.unsigned 16
@@ -63,6 +56,7 @@ span_shown span.Signed16 = forms.signed 16
 span_shown span.Either8 = forms.either_sign 8
 span_shown span.Either32 = forms.either_sign 32
 
+-- an expected token; a small number has 5 bits
 abbrev pub slot_shown : Slot → forms.Expected
 slot_shown (slot.Register field) = forms.ARegister (field_shown field)
 slot_shown slot.Cp0Register = forms.ACp0Register forms.Rd
@@ -74,6 +68,7 @@ slot_shown slot.Label = forms.ALabel
 slot_shown slot.Text = forms.AText
 slot_shown (slot.Mark code) = forms.AMark code
 
+-- expected tokens
 abbrev pub slots_shown : List Slot → List forms.Expected
 slots_shown [] = []
 slots_shown (one ∷ slots) = slot_shown one ∷ slots_shown slots

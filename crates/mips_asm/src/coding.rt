@@ -3,10 +3,10 @@
 ghost use Rattle.std.specs.Prelude.{◌≡◌, ℕ, List, ◌<◌, ◌+◌, ◌^◌, ◌++◌, [], OnOk, unwrap_or};
 ghost use Rattle.flat_ram.specs.Bytes.{bytes_of, zeros_of};
 ghost use Rattle.mips3_table.specs.Instructions.{IsInst};
-ghost use Rattle.mips_asm.specs.Assembly as law;
+ghost use Rattle.mips_text.specs.Coded as law;
 ghost use Rattle.mips_text.specs.Printed as printed;
 ghost use Rattle.mips_text.specs.Values.{bytes_of_text};
-ghost use Rattle.mips_asm.specs.Layout.{label_at};
+ghost use Rattle.mips_text.specs.Coded.{label_at};
 ghost use Rattle.mips_asm.specs.Shown.{IsAppended, IsCoded, IsSound, NeedsNoLabel, item_shown, target_shown, word_shown};
 
 use crate::items::{Goal, Item};
@@ -60,7 +60,7 @@ fn put_zeros(count: usize, bytes: &mut Vec<u8>) -> Result<(), AllocError>
 }
 
 /// The number of 16 bits by which a branch at an address goes to a target, if it can.
-#[tactic(auto, unfolding(crate::specs::Assembly::distance_to))]
+#[tactic(auto, unfolding(mips_text::specs::Coded::distance_to))]
 fn distance_to(at: u64, target: u32) -> u32
     requires { at < 2 ^ 63 + 2 ^ 33 }
     ensures value { result ≡ law.distance_to at target }
@@ -72,7 +72,7 @@ fn distance_to(at: u64, target: u32) -> u32
 }
 
 /// The number of 26 bits by which a jump goes to a target, if it can.
-#[tactic(auto, unfolding(crate::specs::Assembly::word_number))]
+#[tactic(auto, unfolding(mips_text::specs::Coded::word_number))]
 fn word_number(target: u32) -> u32
     ensures value { result ≡ law.word_number target }
     ensures small { result < 2 ^ 26 }
@@ -106,7 +106,7 @@ fn jump_target(at: u64, number: u32) -> u32
 }
 
 /// The word of a branch at an address to a target that it reaches.
-#[tactic(auto, unfolding(crate::specs::Assembly::branch_to))]
+#[tactic(auto, unfolding(mips_text::specs::Coded::branch_to))]
 fn branch_to(inst: &Inst, at: u64, target: u32) -> Option<u32>
     requires far { at < 2 ^ 63 + 2 ^ 33 }
     requires sound { (number : ℕ) → number < 2 ^ 16 → IsInst (record inst.now { imm = number }) }
@@ -121,7 +121,7 @@ fn branch_to(inst: &Inst, at: u64, target: u32) -> Option<u32>
 }
 
 /// The word of a jump at an address to a target that it reaches.
-#[tactic(auto, unfolding(crate::specs::Assembly::jump_to))]
+#[tactic(auto, unfolding(mips_text::specs::Coded::jump_to))]
 fn jump_to(inst: &Inst, at: u64, target: u32) -> Option<u32>
     requires far { at < 2 ^ 63 + 2 ^ 33 }
     requires sound { (number : ℕ) → number < 2 ^ 26 → IsInst (record inst.now { imm = number }) }
@@ -136,7 +136,7 @@ fn jump_to(inst: &Inst, at: u64, target: u32) -> Option<u32>
 }
 
 /// Appends the two instructions that load a register with a number.
-#[tactic(auto, unfolding(crate::specs::Assembly::loading, mips3_table::specs::Rows::row_at, mips3_table::specs::Rows::rows))]
+#[tactic(auto, unfolding(mips_text::specs::Coded::loading, mips3_table::specs::Rows::row_at, mips3_table::specs::Rows::rows))]
 fn put_loading(register: u8, number: u32, bytes: &mut Vec<u8>) -> Result<(), AllocError>
     requires { register < 32 }
     ensures { OnOk result (bytes.new.items ≡ bytes.old.items ++ law.loading register number) }
@@ -249,7 +249,7 @@ fn put_text(text: &[u8], bytes: &mut Vec<u8>) -> Result<(), AllocError>
 }
 
 /// Appends what needs no label.
-#[tactic(auto, unfolding(crate::specs::Assembly::coded_at))]
+#[tactic(auto, unfolding(mips_text::specs::Coded::coded_at))]
 fn put_plain(at: u64, item: &Item, bytes: &mut Vec<u8>) -> Result<(), AllocError>
     requires sound { IsSound item.now }
     requires plain { NeedsNoLabel item.now }
@@ -270,7 +270,7 @@ fn put_plain(at: u64, item: &Item, bytes: &mut Vec<u8>) -> Result<(), AllocError
 }
 
 /// Appends the bytes of a statement at an address.
-#[tactic(auto, unfolding(crate::specs::Assembly::coded_at))]
+#[tactic(auto, unfolding(mips_text::specs::Coded::coded_at))]
 pub fn put_item(labels: &Labels, at: u64, item: &Item, bytes: &mut Vec<u8>) -> Result<(), Stop>
     requires far { at < 2 ^ 63 + 2 ^ 33 }
     requires sound { IsSound item.now }

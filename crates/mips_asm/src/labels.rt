@@ -1,7 +1,7 @@
 //! The labels of a source, each with its address.
 
 ghost use Rattle.std.specs.Prelude.{◌≡◌, None, IsNone, OnOk, IfOk, [], ◌∷◌, ◌++◌};
-ghost use Rattle.mips_asm.specs.Layout.{label_at};
+ghost use Rattle.mips_text.specs.Coded.{label_at};
 
 use indexmap::IndexMap;
 use std::alloc::{AllocError, Global};

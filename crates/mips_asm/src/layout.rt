@@ -2,6 +2,7 @@
 
 ghost use Rattle.std.specs.Prelude.{◌≡◌, ◌+◌, ◌≤◌, IsNone, IfSome, false};
 ghost use Rattle.mips_asm.specs.Layout as law;
+ghost use Rattle.mips_text.specs.Coded as coded;
 ghost use Rattle.mips_asm.specs.PassesOf.{place_at};
 ghost use Rattle.mips_asm.specs.Shown.{IsSound, IsSoundLine, item_shown, label_shown, line_shown, statement_shown};
 
@@ -28,7 +29,7 @@ pub fn puts_first_byte(item: &Item) -> bool
 /// How many zeros lead from an address to a multiple of a power of two.
 pub fn padding(power: u8, address: u64) -> u64
     requires { power ≤ 12 }
-    ensures { result ≡ law.padding power address }
+    ensures { result ≡ coded.padding power address }
 {
     let unit = 1u64 << power;
     (unit - address % unit) % unit

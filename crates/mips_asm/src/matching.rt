@@ -5,7 +5,7 @@ ghost use Rattle.std.specs.List.{All};
 ghost use Rattle.mips_text.specs.Forms as forms;
 ghost use Rattle.mips_text.specs.Tokens.{IsWithin};
 ghost use Rattle.mips_text.specs.Values as values;
-ghost use Rattle.mips_asm.specs.Line as law;
+ghost use Rattle.mips_text.specs.Line as law;
 ghost use Rattle.mips_asm.specs.StatementsOf.{slot_shown, slots_shown, span_shown};
 
 use crate::slots::{Slot, Span};

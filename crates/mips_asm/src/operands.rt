@@ -8,7 +8,7 @@ ghost use Rattle.mips3_table.specs.Operands.{widths_of};
 ghost use Rattle.mips_text.specs.Forms as forms;
 ghost use Rattle.mips_text.specs.Tokens.{IsWithin};
 ghost use Rattle.mips_text.specs.Values.{number_of as number_law};
-ghost use Rattle.mips_asm.specs.Line as law;
+ghost use Rattle.mips_text.specs.Line as law;
 ghost use Rattle.mips_asm.specs.Shown.{IsSound, item_shown, target_shown};
 ghost use Rattle.mips_asm.specs.StatementsOf.{AreWidths, IsStatement, field_shown, slot_shown, slots_shown, statement_shown};
 
@@ -304,7 +304,7 @@ fn item_by_form<'a>(line: &'a [u8], form: Form, inst: Inst, operands: &[Token]) 
 }
 
 /// What a statement puts, by operands that have its shape.
-#[tactic(auto, unfolding(crate::specs::Line::item_of))]
+#[tactic(auto, unfolding(mips_text::specs::Line::item_of))]
 pub fn item_of<'a>(line: &'a [u8], statement: Statement, operands: &[Token]) -> Item<'a>
     requires few { length operands.now < 64 }
     requires row { IsStatement statement }

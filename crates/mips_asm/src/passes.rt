@@ -1,7 +1,8 @@
 //! The base of a source, and the two passes over its lines.
 
 ghost use Rattle.std.specs.Prelude.{◌≡◌, ℕ, ◌<◌, ◌≤◌, ◌+◌, [], ◌^◌, length, unwrap_or, Some, IfOk, IfErr};
-ghost use Rattle.mips_asm.specs.Line as line_law;
+ghost use Rattle.mips_text.specs.Line as line_law;
+ghost use Rattle.mips_text.specs.Coded as coded;
 ghost use Rattle.mips_asm.specs.Layout as layout;
 ghost use Rattle.mips_asm.specs.Assembly as law;
 ghost use Rattle.mips_asm.specs.Shown.{IsCoded, IsSoundLine, item_shown, line_shown};
@@ -119,7 +120,7 @@ pub fn first_pass(alloc: Global, base: u32, source: &[u8]) -> Result<Labels, Asm
 fn fill_line(labels: &Labels, at: u64, line: &[u8], bytes: &mut Vec<u8>) -> Result<(), Stop>
     requires far { at < 2 ^ 63 + 2 ^ 33 }
     requires short { length line.now ≤ 4294967294 }
-    ensures { IsCoded (law.coded_of labels.now at (law.item_read (line_law.read_line line.now))) result bytes.old.items bytes.new.items }
+    ensures { IsCoded (coded.coded_of labels.now at (law.item_read (line_law.read_line line.now))) result bytes.old.items bytes.new.items }
 {
     match read_line(line) {
         Ok(

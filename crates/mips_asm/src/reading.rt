@@ -4,7 +4,7 @@ ghost use Rattle.std.specs.Prelude.{◌≡◌, ◌<◌, ◌≤◌, ◌&&◌, len
 ghost use Rattle.std.specs.List.{All};
 ghost use Rattle.mips_text.specs.Forms as forms;
 ghost use Rattle.mips_text.specs.Tokens.{IsWithin};
-ghost use Rattle.mips_asm.specs.Line as law;
+ghost use Rattle.mips_text.specs.Line as law;
 ghost use Rattle.mips_asm.specs.Shown.{IsSound, IsSoundLine, label_shown, reading_shown, statement_shown as items_shown};
 ghost use Rattle.mips_asm.specs.StatementsOf.{IsStatement, statement_shown};
 
@@ -17,7 +17,7 @@ use arrayvec::ArrayVec;
 use mips_text::{AsmWhy, Token, TokenKind, tokens};
 
 /// The first reason for which these tokens are not the operands of a statement.
-#[tactic(auto, unfolding(crate::specs::Line::operands_fault))]
+#[tactic(auto, unfolding(mips_text::specs::Line::operands_fault))]
 fn operands_fault(line: &[u8], statement: Statement, operands: &[Token]) -> Option<AsmWhy>
     requires few { length operands.now < 64 }
     requires row { IsStatement statement }
@@ -80,7 +80,7 @@ fn read_operands<'a>(
 }
 
 /// A statement, which begins with its name.
-#[tactic(auto, unfolding(crate::specs::Line::read_statement))]
+#[tactic(auto, unfolding(mips_text::specs::Line::read_statement))]
 fn read_statement<'a>(
     line: &'a [u8],
     label: Option<&'a [u8]>,
@@ -133,7 +133,7 @@ fn read_tokens<'a>(line: &'a [u8], list: &[Token]) -> Result<Line<'a>, AsmWhy>
 }
 
 /// What a line says, or the first reason for which it says nothing.
-#[tactic(auto, unfolding(crate::specs::Line::read_line))]
+#[tactic(auto, unfolding(mips_text::specs::Line::read_line))]
 pub fn read_line(line: &[u8]) -> Result<Line, AsmWhy>
     requires { length line.now ≤ 4294967294 }
     ensures reading { reading_shown result ≡ law.read_line line.now }

@@ -3,7 +3,7 @@
 ghost use Rattle.std.specs.Prelude.{◌≡◌, ◌<◌, ◌≤◌, ◌+◌, ◌*◌, ◌++◌, [], length};
 ghost use Rattle.arrayvec.specs.ArrayVec.{array_vec_len};
 ghost use Rattle.mips_text.specs.Forms as forms;
-ghost use Rattle.mips_asm.specs.Line as law;
+ghost use Rattle.mips_text.specs.Line as law;
 ghost use Rattle.mips_asm.specs.StatementsOf.{IsStatement, slots_shown, span_shown, statement_shown};
 
 use crate::statements::Statement;
@@ -61,6 +61,20 @@ pub type Slots = ArrayVec<Slot, 64>;
 
 const COMMA: Slot = Slot::Mark(b',');
 
+const OPEN: Slot = Slot::Mark(b'(');
+
+const CLOSE: Slot = Slot::Mark(b')');
+
+const RS: Slot = Slot::Register(Place::Rs);
+
+const RT: Slot = Slot::Register(Place::Rt);
+
+const RD: Slot = Slot::Register(Place::Rd);
+
+const SIGNED: Slot = Slot::Number(Span::Signed16);
+
+const UNSIGNED: Slot = Slot::Number(Span::Unsigned16);
+
 /// Appends tokens.
 fn put(slots: &[Slot], out: &mut Slots)
     requires { array_vec_len out.old + length slots.now ≤ 64 }
@@ -77,142 +91,31 @@ fn put_form(form: Form, out: &mut Slots)
     requires { array_vec_len out.old ≡ 0 }
     ensures { slots_shown out.new.items ≡ forms.separated (forms.operands_of form) }
 {
+    let rt_number = Slot::Small(Place::Rt);
     match form {
         Form::Target => put(&[Slot::Target], out),
-        Form::CompareBranch => put(
-            &[
-                Slot::Register(Place::Rs),
-                COMMA,
-                Slot::Register(Place::Rt),
-                COMMA,
-                Slot::Target,
-            ],
-            out,
-        ),
-        Form::ZeroBranch => put(&[Slot::Register(Place::Rs), COMMA, Slot::Target], out),
-        Form::SignedImmediate => put(
-            &[
-                Slot::Register(Place::Rt),
-                COMMA,
-                Slot::Register(Place::Rs),
-                COMMA,
-                Slot::Number(Span::Signed16),
-            ],
-            out,
-        ),
-        Form::UnsignedImmediate => put(
-            &[
-                Slot::Register(Place::Rt),
-                COMMA,
-                Slot::Register(Place::Rs),
-                COMMA,
-                Slot::Number(Span::Unsigned16),
-            ],
-            out,
-        ),
-        Form::UpperImmediate => put(
-            &[
-                Slot::Register(Place::Rt),
-                COMMA,
-                Slot::Number(Span::Unsigned16),
-            ],
-            out,
-        ),
-        Form::Memory => put(
-            &[
-                Slot::Register(Place::Rt),
-                COMMA,
-                Slot::Number(Span::Signed16),
-                Slot::Mark(b'('),
-                Slot::Register(Place::Rs),
-                Slot::Mark(b')'),
-            ],
-            out,
-        ),
-        Form::CacheOperation => put(
-            &[
-                Slot::Small(Place::Rt),
-                COMMA,
-                Slot::Number(Span::Signed16),
-                Slot::Mark(b'('),
-                Slot::Register(Place::Rs),
-                Slot::Mark(b')'),
-            ],
-            out,
-        ),
+        Form::CompareBranch => put(&[RS, COMMA, RT, COMMA, Slot::Target], out),
+        Form::ZeroBranch => put(&[RS, COMMA, Slot::Target], out),
+        Form::SignedImmediate => put(&[RT, COMMA, RS, COMMA, SIGNED], out),
+        Form::UnsignedImmediate => put(&[RT, COMMA, RS, COMMA, UNSIGNED], out),
+        Form::UpperImmediate => put(&[RT, COMMA, UNSIGNED], out),
+        Form::Memory => put(&[RT, COMMA, SIGNED, OPEN, RS, CLOSE], out),
+        Form::CacheOperation | Form::CoprocessorMemory => {
+            put(&[rt_number, COMMA, SIGNED, OPEN, RS, CLOSE], out)
+        }
         Form::CoprocessorNumber => put(&[Slot::Number(Span::Unsigned26)], out),
-        Form::CoprocessorMemory => put(
-            &[
-                Slot::Small(Place::Rt),
-                COMMA,
-                Slot::Number(Span::Signed16),
-                Slot::Mark(b'('),
-                Slot::Register(Place::Rs),
-                Slot::Mark(b')'),
-            ],
-            out,
-        ),
-        Form::Shift => put(
-            &[
-                Slot::Register(Place::Rd),
-                COMMA,
-                Slot::Register(Place::Rt),
-                COMMA,
-                Slot::Small(Place::Sa),
-            ],
-            out,
-        ),
-        Form::ShiftByRegister => put(
-            &[
-                Slot::Register(Place::Rd),
-                COMMA,
-                Slot::Register(Place::Rt),
-                COMMA,
-                Slot::Register(Place::Rs),
-            ],
-            out,
-        ),
-        Form::Source => put(&[Slot::Register(Place::Rs)], out),
-        Form::JumpAndLinkRegister => put(
-            &[Slot::Register(Place::Rd), COMMA, Slot::Register(Place::Rs)],
-            out,
-        ),
+        Form::Shift => put(&[RD, COMMA, RT, COMMA, Slot::Small(Place::Sa)], out),
+        Form::ShiftByRegister => put(&[RD, COMMA, RT, COMMA, RS], out),
+        Form::Source => put(&[RS], out),
+        Form::JumpAndLinkRegister => put(&[RD, COMMA, RS], out),
         Form::Code => put(&[Slot::Number(Span::Unsigned20)], out),
         Form::NoOperands => {}
-        Form::Destination => put(&[Slot::Register(Place::Rd)], out),
-        Form::TwoSources => put(
-            &[Slot::Register(Place::Rs), COMMA, Slot::Register(Place::Rt)],
-            out,
-        ),
-        Form::ThreeRegisters => put(
-            &[
-                Slot::Register(Place::Rd),
-                COMMA,
-                Slot::Register(Place::Rs),
-                COMMA,
-                Slot::Register(Place::Rt),
-            ],
-            out,
-        ),
-        Form::TrapRegisters => put(
-            &[
-                Slot::Register(Place::Rs),
-                COMMA,
-                Slot::Register(Place::Rt),
-                COMMA,
-                Slot::Number(Span::Unsigned10),
-            ],
-            out,
-        ),
-        Form::TrapImmediate => put(
-            &[
-                Slot::Register(Place::Rs),
-                COMMA,
-                Slot::Number(Span::Signed16),
-            ],
-            out,
-        ),
-        Form::Cp0Move => put(&[Slot::Register(Place::Rt), COMMA, Slot::Cp0Register], out),
+        Form::Destination => put(&[RD], out),
+        Form::TwoSources => put(&[RS, COMMA, RT], out),
+        Form::ThreeRegisters => put(&[RD, COMMA, RS, COMMA, RT], out),
+        Form::TrapRegisters => put(&[RS, COMMA, RT, COMMA, Slot::Number(Span::Unsigned10)], out),
+        Form::TrapImmediate => put(&[RS, COMMA, SIGNED], out),
+        Form::Cp0Move => put(&[RT, COMMA, Slot::Cp0Register], out),
     }
 }
 
@@ -238,19 +141,9 @@ pub fn slots_of(statement: Statement, count: usize) -> Slots
     let mut out = Slots::new();
     match statement {
         Statement::Instruction(row) => put_form(form_of(row), &mut out),
-        Statement::Li => put(
-            &[
-                Slot::Register(Place::Rt),
-                COMMA,
-                Slot::Number(Span::Either32),
-            ],
-            &mut out,
-        ),
-        Statement::La => put(&[Slot::Register(Place::Rt), COMMA, Slot::Label], &mut out),
-        Statement::Move => put(
-            &[Slot::Register(Place::Rd), COMMA, Slot::Register(Place::Rs)],
-            &mut out,
-        ),
+        Statement::Li => put(&[RT, COMMA, Slot::Number(Span::Either32)], &mut out),
+        Statement::La => put(&[RT, COMMA, Slot::Label], &mut out),
+        Statement::Move => put(&[RD, COMMA, RS], &mut out),
         Statement::Branch => put(&[Slot::Target], &mut out),
         Statement::Org => put(&[Slot::Number(Span::Unsigned32)], &mut out),
         Statement::Space => put(&[Slot::Number(Span::Unsigned32)], &mut out),

@@ -2,7 +2,7 @@
 
 ghost use Rattle.std.specs.Prelude.{◌≡◌, IfSome, bytes_eq};
 ghost use Rattle.mips_text.specs.Forms as forms;
-ghost use Rattle.mips_asm.specs.StatementsOf.{IsStatement, directive_of, name_shown};
+ghost use Rattle.mips_asm.specs.StatementsOf.{IsStatement, name_shown};
 
 use mips_text::row_named;
 
@@ -34,7 +34,7 @@ fn reads(text: &[u8], name: &str) -> bool
 /// The directive of a name, or the instruction.
 #[tactic(auto, using(crate::proofs::RowNames::row_within))]
 fn directive_named(text: &[u8]) -> Option<Statement>
-    ensures value { name_shown result ≡ directive_of text.now }
+    ensures value { name_shown result ≡ forms.directive_of text.now }
     ensures row { IfSome result IsStatement }
 {
     let is_org = reads(text, ".org");

@@ -79,6 +79,7 @@ const REFUSALS: &str = "\
     .ascii \"\\x\"|1 Operand\n\
     .byte 256|1 Range\n\
     .word 4294967296|1 Range\n\
+    .space 8388609|1 Range\n\
     sll t0,t1,32|1 Range\n";
 
 fn name_of(why: AsmWhy) -> &'static str {
@@ -128,6 +129,12 @@ fn sources_and_their_images(rt: HostRuntime) {
     for case in IMAGES.lines() {
         assert_image(&rt, rt.alloc(), case);
     }
+}
+
+#[test]
+fn an_image_has_up_to_8388608_bytes(rt: HostRuntime) {
+    let built = built_of(rt.alloc(), ".space 8388608").expect(&rt, "a source of an image");
+    assert_eq!(rt; built.bytes.len(), 8388608);
 }
 
 fn assert_refusal(rt: &impl Abort, alloc: Global, case: &str) {

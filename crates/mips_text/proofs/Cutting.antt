@@ -213,7 +213,7 @@ pub in_order_pushed : (from : ℕ) (tokens : List Token) (to : ℕ) (token : Tok
 in_order_pushed from [] to token more order le lt within = (omega arith, lt, within)
 in_order_pushed from (first ∷ tokens) to token more order le lt within = (order.0, order.1, in_order_pushed first.to tokens to token more order.2 le lt within)
 
-at_most_within : (most : ℕ) (cut : Cut) → length cut.tokens ≤ most → at_most most cut ≡ cut
+pub at_most_within : (most : ℕ) (cut : Cut) → length cut.tokens ≤ most → at_most most cut ≡ cut
 at_most_within most cut le = let few : nat_lt most (length cut.tokens) ≡ false = grind (arith, common_steps) in
     ap (λ b. if b then record { tokens = take most cut.tokens; refusal = Some Operand } else cut) few
 

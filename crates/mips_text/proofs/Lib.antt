@@ -4,3 +4,12 @@ pub mod RowNames
 pub mod Naming
 pub mod Numbers
 pub mod Escapes
+pub mod DigitTexts
+pub mod Starts
+pub mod Pieces
+pub mod ReadValues
+pub mod Places
+pub mod OperandPlaces
+pub mod OperandValues
+pub mod ReadBack
+pub mod ReadReserved

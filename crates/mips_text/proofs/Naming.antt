@@ -20,11 +20,11 @@ position_nowhere p names none count long before =
     let past : nat_lt count (length names) ≡ false = grind (arith, common_steps) in
     ap (λ n. cond (nat_lt n (length names)) (Some n) None) is ∙ ap (λ b. cond b (Some count) None) past
 
-register_count : length register_names ≡ 32
+pub register_count : length register_names ≡ 32
 unfolding register_names
 register_count = refl
 
-cp0_count : length cp0_names ≡ 32
+pub cp0_count : length cp0_names ≡ 32
 unfolding cp0_names
 cp0_count = refl
 

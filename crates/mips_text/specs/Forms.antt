@@ -161,6 +161,17 @@ shape_of Ascii = Tokens (AText ∷ [])
 unfoldable pub row_named : List ℕ → Option ℕ
 row_named name = position (λ row. bytes_eq name row.name) rows
 
+-- the directive or the instruction of a name, None where it has neither
+abbrev pub directive_of : List ℕ → Option Statement
+directive_of name =
+    if bytes_eq name (codes ".org") then Some Org
+    else if bytes_eq name (codes ".word") then Some Word
+    else if bytes_eq name (codes ".byte") then Some Byte
+    else if bytes_eq name (codes ".space") then Some Space
+    else if bytes_eq name (codes ".align") then Some Align
+    else if bytes_eq name (codes ".ascii") then Some Ascii
+    else option_map Instruction (row_named name)
+
 -- the statement of a name, None where it has none
 unfoldable pub statement_named : List ℕ → Option Statement
 statement_named name =
@@ -169,13 +180,7 @@ statement_named name =
     else if bytes_eq name (codes "move") then Some Move
     else if bytes_eq name (codes "nop") then Some Nop
     else if bytes_eq name (codes "b") then Some Branch
-    else if bytes_eq name (codes ".org") then Some Org
-    else if bytes_eq name (codes ".word") then Some Word
-    else if bytes_eq name (codes ".byte") then Some Byte
-    else if bytes_eq name (codes ".space") then Some Space
-    else if bytes_eq name (codes ".align") then Some Align
-    else if bytes_eq name (codes ".ascii") then Some Ascii
-    else option_map Instruction (row_named name)
+    else directive_of name
 
 -- the text of a token in its line
 abbrev pub token_text : List ℕ → Token → List ℕ
@@ -199,6 +204,7 @@ has_kind AText Text text = is_some (bytes_of_text text)
 has_kind (AMark code) Mark text = slice_index text 0 == code
 has_kind expected kind text = false
 
+-- a number lies in a range
 abbrev pub in_range : Range → ℤ → Bool
 in_range (Between low high) n = int_le low n && int_le n high
 in_range AnyNumber n = true

@@ -20,12 +20,15 @@ cp0_names =
     codes "Config" ∷ codes "LLAddr" ∷ codes "c18" ∷ codes "c19" ∷ codes "c20" ∷ codes "c21" ∷ codes "c22" ∷ codes "c23" ∷
     codes "c24" ∷ codes "c25" ∷ codes "c26" ∷ codes "c27" ∷ codes "TagLo" ∷ codes "TagHi" ∷ codes "ErrorEPC" ∷ codes "c31" ∷ []
 
+-- the name of a general register
 unfoldable pub register_name : ℕ → List ℕ
 register_name register = slice_index_or register_names register []
 
+-- the name of a register of coprocessor 0
 unfoldable pub cp0_name : ℕ → List ℕ
 cp0_name register = slice_index_or cp0_names register []
 
+-- a number, if it is below 32
 abbrev pub below_32 : Option ℕ → Option ℕ
 below_32 (Some n) = if nat_lt n 32 then Some n else None
 below_32 None = None
@@ -34,6 +37,7 @@ below_32 None = None
 abbrev pub numbered : ℕ → List ℕ → Option ℕ
 numbered first text = if slice_index text 0 == first then below_32 (read_dec (drop 1 text)) else None
 
+-- the first of two, if it is there, else the second
 abbrev pub or_else : Option ℕ → Option ℕ → Option ℕ
 or_else (Some n) other = Some n
 or_else None other = other

@@ -44,6 +44,7 @@ is_hexadecimal text = (slice_index text 0 == 48) && (slice_index text 1 == 120) 
 abbrev pub number_length : List ℕ → ℕ
 number_length text = if is_hexadecimal text then 2 + prefix_len is_hex_digit (drop 2 text) else prefix_len is_digit text
 
+-- a length and one more
 abbrev pub one_more : Option ℕ → Option ℕ
 one_more (Some n) = Some (n + 1)
 one_more None = None
@@ -95,9 +96,11 @@ pub record Cut : Type 0 where
   pub tokens : List Token
   pub refusal : Option AsmWhy
 
+-- no token is left, and nothing is refused
 abbrev pub whole : Cut
 whole = record { tokens = []; refusal = None }
 
+-- no token is left, and what stands here is refused
 abbrev pub refused : AsmWhy → Cut
 refused why = record { tokens = []; refusal = Some why }
 
@@ -105,6 +108,7 @@ refused why = record { tokens = []; refusal = Some why }
 abbrev pub token_at : TokenKind → ℕ → ℕ → Token
 token_at kind at size = record { kind = kind; from = at; to = at + size }
 
+-- a token before those of a cut
 abbrev pub before : Token → Cut → Cut
 before token cut = record { tokens = token ∷ cut.tokens; refusal = cut.refusal }
 

@@ -2,8 +2,9 @@
 //!
 //! `tokens` cuts a line into names, numbers, texts and marks. `row_named`, `register_of`, `cp0_register_of`,
 //! `number_of`, `text_size` and `push_text` say what a token stands for. `print_inst` prints an instruction of
-//! `mips3_table` as a statement, and `print_word` any word. The operands of each form are listed once, in `specs/Forms.antt`, and give both the
-//! texts that are printed and the tokens that a statement is read from.
+//! `mips3_table` as a statement, and `print_word` any word. The operands of each form are listed once, in
+//! `specs/Forms.antt`, and give both the texts that are printed and the tokens that a statement is read from: what is
+//! printed is read back as the word, by the definitions of a line and of its bytes that the assembler has.
 //!
 //! Reading order: the reasons of a refusal, the kinds of tokens, a line cut into tokens; the names of registers, what
 //! names, numbers and texts stand for; the text of each kind of operand, the text of an instruction.

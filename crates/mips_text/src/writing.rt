@@ -1,4 +1,4 @@
-//! The text of each kind of operand, appended to a line.
+//! The text of each kind of operand, appended to a line, and where branches and jumps go.
 
 ghost use Rattle.std.specs.Prelude.{◌≡◌, ◌<◌, ◌≤◌, ◌+◌, ◌^◌, ◌++◌, length};
 ghost use Rattle.arrayvec.specs.ArrayVec.{array_vec_len};
@@ -86,7 +86,7 @@ pub fn put_based(offset: u32, base: u8, line: &mut Line)
 
 /// Where a branch at this address goes.
 #[tactic(auto, unfolding(crate::specs::Printed::branch_target))]
-fn branch_to(at: u32, distance: u32) -> u32
+pub fn branch_to(at: u32, distance: u32) -> u32
     requires { distance < 2 ^ 16 }
     ensures { result ≡ branch_target at distance }
 {
@@ -100,29 +100,9 @@ fn branch_to(at: u32, distance: u32) -> u32
 
 /// Where a jump at this address goes.
 #[tactic(auto, unfolding(crate::specs::Printed::jump_target))]
-fn jump_to(at: u32, number: u32) -> u32
+pub fn jump_to(at: u32, number: u32) -> u32
     requires { number < 2 ^ 26 }
     ensures { result ≡ jump_target at number }
 {
     at.wrapping_add(4) / 0x10000000 * 0x10000000 + 4 * number
-}
-
-/// Appends where a branch at this address goes.
-pub fn put_branch_target(at: u32, distance: u32, line: &mut Line)
-    requires distance { distance < 2 ^ 16 }
-    requires room { array_vec_len line.old ≤ 100 }
-    ensures items { line.new.items ≡ line.old.items ++ hex_text (branch_target at distance) }
-    ensures len { array_vec_len line.new ≤ array_vec_len line.old + 10 }
-{
-    put_hexadecimal(branch_to(at, distance), line);
-}
-
-/// Appends where a jump at this address goes.
-pub fn put_jump_target(at: u32, number: u32, line: &mut Line)
-    requires number { number < 2 ^ 26 }
-    requires room { array_vec_len line.old ≤ 100 }
-    ensures items { line.new.items ≡ line.old.items ++ hex_text (jump_target at number) }
-    ensures len { array_vec_len line.new ≤ array_vec_len line.old + 10 }
-{
-    put_hexadecimal(jump_to(at, number), line);
 }

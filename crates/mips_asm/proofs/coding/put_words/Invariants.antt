@@ -1,5 +1,5 @@
 use Rattle.std.proofs.Common.{◌≡◌, ◌++◌, drop}
-use Rattle.mips_asm.specs.Assembly.{bytes_of_words}
+use Rattle.mips_text.specs.Coded.{bytes_of_words}
 use Rattle.mips_asm.proofs.coding.put_words.Given as goal
 
 abbrev pub invariant-loop-word : goal.invariant-loop-word

@@ -1,7 +1,7 @@
 use Rattle.std.proofs.Common.{◌≡◌, ◌++◌, [], ◌∷◌, None, nat_eq, ap, ◌∙◌}
 use Rattle.std.specs.Cmp.Lexicographic.{pointwise}
 use Rattle.std.specs.Map.{lookup}
-use Rattle.mips_asm.specs.Layout.{label_at}
+use Rattle.mips_text.specs.Coded.{label_at}
 use Rattle.mips_asm.specs.LabelsOf.{labels_shown}
 use Rattle.mips_asm.proofs.LabelList.{lookup_shown, labels_shown_append}
 use Rattle.indexmap.proofs.CallerLemmas.{insert_entry-new}

@@ -1,5 +1,5 @@
 use Rattle.std.proofs.Common.{ap, ◌∙◌}
-use Rattle.mips_asm.specs.Layout.{label_at}
+use Rattle.mips_text.specs.Coded.{label_at}
 use Rattle.mips_asm.proofs.LabelList.{lookup_shown}
 use Rattle.mips_asm.proofs.labels.Labels.address_of.Goals as goal
 

@@ -116,6 +116,7 @@ in_bits width (negsuc n) = 2 ^ width - 1 - n % 2 ^ width
 abbrev pub register_value : List ℕ → ℕ
 register_value text = unwrap_or (register_of text) 0 % 2 ^ 5
 
+-- the register of coprocessor 0 that a text names
 abbrev pub cp0_register_value : List ℕ → ℕ
 cp0_register_value text = unwrap_or (cp0_register_of text) 0 % 2 ^ 5
 
@@ -134,6 +135,7 @@ with_operand (ACp0Register field) text inst = with_field field (cp0_register_val
 with_operand (ANumber field range) text inst = with_field field (in_bits 32 (number_value text)) inst
 with_operand expected text inst = inst
 
+-- an instruction with the fields that the tokens give, one after another
 abbrev pub with_operands : List ℕ → List Expected → List Token → Inst → Inst
 with_operands line [] tokens inst = inst
 with_operands line (one ∷ expected) [] inst = inst
@@ -178,20 +180,25 @@ abbrev pub text_found : List ℕ → Option Token → List ℕ
 text_found line (Some token) = token_text line token
 text_found line None = []
 
+-- the text of the token at an index
 abbrev pub text_at : List ℕ → List Token → ℕ → List ℕ
 text_at line tokens at = text_found line (slice_get tokens at)
 
+-- the target that a token stands for: a Name is a label, a Number an address
 abbrev pub target_of : TokenKind → List ℕ → Target
 target_of Name text = Label text
 target_of kind text = Address (natural (number_value text))
 
+-- the target of a token, if there is one
 abbrev pub target_found : List ℕ → Option Token → Target
 target_found line (Some token) = target_of token.kind (token_text line token)
 target_found line None = Address 0
 
+-- the target of the token at an index
 abbrev pub target_at : List ℕ → List Token → ℕ → Target
 target_at line tokens at = target_found line (slice_get tokens at)
 
+-- a number before others, where the token is one
 abbrev pub with_number : ℕ → TokenKind → List ℕ → List ℕ → List ℕ
 with_number width Number text numbers = in_bits width (number_value text) ∷ numbers
 with_number width kind text numbers = numbers
@@ -235,10 +242,12 @@ pub record Parts : Type 0 where
   pub label : Option (List ℕ)
   pub statement : List Token
 
+-- a token is the mark `:`
 abbrev pub is_colon : TokenKind → List ℕ → Bool
 is_colon Mark text = slice_index text 0 == 58
 is_colon kind text = false
 
+-- a token is a Name
 abbrev pub is_name : TokenKind → Bool
 is_name Name = true
 is_name kind = false

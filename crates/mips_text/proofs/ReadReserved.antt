@@ -1,0 +1,50 @@
+-- What is printed of a reserved word is read back as the word.
+use Rattle.std.proofs.Common.{◌≡◌, ◌<◌, ◌-◌, ◌^◌, ℕ, List, [], ◌∷◌, ◌++◌, codes, Some, None, refl, ap, ◌∙◌, subst, arith, append-nil, le-leb}
+use Rattle.mips_text.specs.declared.token.TokenKind.TheVariants.{Name, Number}
+use Rattle.mips_text.specs.Tokens.{tokens_of}
+use Rattle.mips_text.specs.Values.{hex_text}
+use Rattle.mips_text.specs.Forms.{Imm, ANumber, Word, either_sign, in_range, token_text, statement_named}
+use Rattle.mips_text.specs.Line.{Words, read_line, read_cut, parts_of, in_bits, number_value, with_number, item_of}
+use Rattle.mips_text.specs.Coded.{coded_at}
+use Rattle.mips_text.specs.ReadBack.{ReadsAs}
+use Rattle.mips_text.proofs.Pieces.{Piece, piece, Spells, name_piece, hexadecimal_piece, line_of_more}
+use Rattle.mips_text.proofs.ReadValues.{hexadecimal_read}
+use Rattle.mips_text.proofs.Places.{Place, place, pieces_at, Agrees, Puts, cut_spelled}
+use Rattle.mips_text.proofs.OperandValues.{number_back}
+
+-- the number of a word
+abbrev word_place : ℕ → Place
+word_place word = place (ANumber Imm (either_sign 32)) Number (hex_text word)
+
+word_agrees : (word : ℕ) → word < 2 ^ 32 → Agrees (word_place word)
+word_agrees word small = record { known = refl; kind = refl; range = ap (in_range (either_sign 32)) (hexadecimal_read word) ∙ le-leb word (2 ^ 32 - 1) (omega arith) }
+
+word_named : statement_named (codes ".word") ≡ Some Word
+unfolding statement_named
+word_named = refl
+
+-- the statement puts the word
+word_puts : (line : List ℕ) (word : ℕ) → word < 2 ^ 32 → Puts line Word (word_place word ∷ []) (Words (word ∷ []))
+unfolding item_of
+word_puts line word small [] spells = absurd spells
+word_puts line word small (token ∷ next ∷ tokens) spells = absurd spells.2
+word_puts line word small (token ∷ []) spells =
+    ap (λ k. Words (with_number 32 k (token_text line token) [])) spells.0
+    ∙ ap (λ t. Words (in_bits 32 (number_value t) ∷ [])) spells.1
+    ∙ ap (λ n. Words (n ∷ [])) (number_back word (hex_text word) (hexadecimal_read word) small)
+
+-- the line that was printed of a reserved word
+pub reserved_is_read : (word at : ℕ) → word < 2 ^ 32 → ReadsAs (codes ".word " ++ hex_text word) at word
+unfolding read_line coded_at
+reserved_is_read word at small =
+    let line : List ℕ = codes ".word " ++ hex_text word in
+    let pieces : List Piece = piece Name (codes ".word") ∷ pieces_at (word_place word ∷ []) in
+    let cut = subst (λ text. let one : List ℕ = codes ".word " ++ text in ((tokens_of one).refusal ≡ None) × Spells one (tokens_of one).tokens pieces) (append-nil (hex_text word))
+    (line_of_more (piece Name (codes ".word")) (piece Number (hex_text word)) [] (name_piece (codes ".word") refl) (hexadecimal_piece word, refl, tt) (omega arith)) in
+    record {
+      item = Words (word ∷ []);
+      is_read =
+          ap (λ r. read_cut line r (parts_of line (tokens_of line).tokens)) cut.0
+          ∙ cut_spelled line (codes ".word") Word (word_place word ∷ []) (Words (word ∷ [])) (tokens_of line).tokens cut.1 word_named refl (word_agrees word small, tt) refl (word_puts line word small);
+      is_word = λ labels. refl;
+    }
