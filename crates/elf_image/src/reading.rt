@@ -1,5 +1,5 @@
 // The image, from a file's bytes.
-ghost use Rattle.std.specs.Prelude.{◌≡◌, ◌+◌, ◌*◌, ◌<◌, ◌≤◌, length, false, IfOk, OnOk, IfErr};
+ghost use Rattle.std.specs.Prelude.{◌≡◌, ◌+◌, ◌*◌, ◌<◌, ◌≤◌, ◌^◌, length, false, IfOk, OnOk, IfErr};
 ghost use Rattle.elf_image.specs.Header as header;
 ghost use Rattle.elf_image.specs.Rules as law;
 ghost use Rattle.elf_image.specs.Loading as loading;
@@ -73,10 +73,12 @@ impl<'a> Image<'a> {
         segment_at(self.bytes, self.table as usize + 32 * index as usize)
     }
 
-    /// The bytes that the file has of the segment that a program header names: none where it is not stored.
+    /// The bytes that the file has of the segment that a program header names: none where it is not stored. From the
+    /// segment's address on they end below 2 ^ 32, so no address of them wraps.
     pub fn file_bytes(&self, index: u32) -> &'a [u8]
         requires { index < header.count_of self.now }
-        ensures { result.now ≡ loading.file_bytes_of self.now (header.segment_at self.now (header.table_of self.now + 32 * index)) }
+        ensures bytes { result.now ≡ loading.file_bytes_of self.now (header.segment_at self.now (header.table_of self.now + 32 * index)) }
+        ensures ends { (header.segment_at self.now (header.table_of self.now + 32 * index)).address + length result.now ≤ 2 ^ 32 }
     {
         file_bytes(self.bytes, self.table as usize + 32 * index as usize)
     }
@@ -85,7 +87,8 @@ impl<'a> Image<'a> {
 fn file_bytes(bytes: &[u8], at: usize) -> &[u8]
     requires whole { at + 32 ≤ length bytes.now }
     requires range { law.breaks_range bytes.now at ≡ false }
-    ensures { result.now ≡ loading.file_bytes_of bytes.now (header.segment_at bytes.now at) }
+    ensures bytes { result.now ≡ loading.file_bytes_of bytes.now (header.segment_at bytes.now at) }
+    ensures ends { (header.segment_at bytes.now at).address + length result.now ≤ 2 ^ 32 }
 {
     let segment = segment_at(bytes, at);
     if !is_stored(&segment) {

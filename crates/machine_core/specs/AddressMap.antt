@@ -26,6 +26,7 @@ word_from bus pa Prom = reply.Value (slice_index bus.prom.words ((pa - prom_base
 word_from bus pa Device = reply.Missing
 word_from bus pa Empty = reply.Missing
 
+-- a fetch from a physical address
 abbrev pub fetch_reply : Bus → ℕ → Reply
 fetch_reply bus pa = word_from bus pa (spot_of pa)
 
@@ -54,6 +55,7 @@ load_from bus pa Prom = word_from bus pa Prom
 load_from bus pa Device = register_reply bus (pa - device_base)
 load_from bus pa Empty = reply.Missing
 
+-- a load from a physical address
 abbrev pub load_reply : Bus → ℕ → Reply
 load_reply bus pa = load_from bus pa (spot_of pa)
 
@@ -76,6 +78,7 @@ store_to bus pa value Prom = refused bus
 store_to bus pa value Device = register_outcome bus (pa - device_base) value
 store_to bus pa value Empty = refused bus
 
+-- a store to a physical address
 abbrev pub store_outcome : Bus → ℕ → ℕ → Outcome Bus
 store_outcome bus pa value = store_to bus pa value (spot_of pa)
 

@@ -10,9 +10,11 @@ use Rattle.machine_core.specs.declared.instructions.Instruction.TheVariants.{Loa
 abbrev pub five_bits : ℕ → ℕ → ℕ
 five_bits word low = field word (low + 4) low
 
+-- the immediate or the offset of a word
 abbrev pub low_half : ℕ → ℕ
 low_half word = field word 15 0
 
+-- its opcode, its three registers, and its shift amount
 abbrev pub op : ℕ → ℕ
 op word = field word 31 26
 

@@ -26,6 +26,7 @@ pub record Reached : Type 0 where
   pub machine : Machine
   pub answer : Tick
 
+-- what a tick with the bus reaches, as a machine
 abbrev pub reached : Ticked Bus → Reached
 reached ticked = record { machine = record { cpu = ticked.cpu; bus = ticked.memory }; answer = ticked.answer }
 

@@ -73,6 +73,7 @@ cause_line cp0 = four_line (codes "c13 ") cp0.cause cp0.epc cp0.prid cp0.config
 abbrev pub tag_line : Cp0 → List ℕ
 tag_line cp0 = four_line (codes "c17 ") cp0.ll_addr cp0.tag_lo cp0.tag_hi cp0.error_epc
 
+-- a pair of the TLB whose four words are zero
 abbrev pub is_zero_pair : Pair → Bool
 is_zero_pair pair = (pair.mask == 0) && ((pair.hi == 0) && ((pair.lo0 == 0) && (pair.lo1 == 0)))
 

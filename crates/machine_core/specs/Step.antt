@@ -39,6 +39,7 @@ abbrev pub loaded : Cpu → ℕ → Reply → Talk
 loaded cpu rt (Value value) = Done (with_result cpu rt (sext32 (value % 2 ^ 32)))
 loaded cpu rt _ = Refuse cpu part.Access
 
+-- a load of a word into rt; the address is one of kseg1
 unfoldable pub load : Cpu → ℕ → ℕ → Talk
 load cpu rt va = if is_direct va then Ask (Load (direct_access cpu va) 4) (loaded cpu rt) else Refuse cpu part.Access
 
@@ -48,6 +49,7 @@ stored cpu Stored = Done (advanced cpu)
 stored cpu (Halt code) = Done (advanced (record cpu { halt = Some code }))
 stored cpu _ = Refuse cpu part.Access
 
+-- a store of a word; the address is one of kseg1
 unfoldable pub store : Cpu → ℕ → ℕ → Talk
 store cpu value va = if is_direct va then Ask (Store (direct_access cpu va) 4 value) (stored cpu) else Refuse cpu part.Access
 
@@ -61,6 +63,7 @@ execute cpu (LoadWord rt base offset) = load cpu rt (effective_address cpu base 
 execute cpu (StoreWord rt base offset) = store cpu (low_word cpu.regs rt) (effective_address cpu base offset)
 execute cpu (MoveToStatus rt) = Done (advanced (record cpu { cp0 = with_status cpu.cp0 (low_word cpu.regs rt) }))
 
+-- the effect of an instruction, if the word has one that is built
 abbrev pub execute_found : Cpu → Option Instruction → Talk
 execute_found cpu (Some instruction) = execute cpu instruction
 execute_found cpu None = Refuse cpu part.Word

@@ -22,6 +22,7 @@ told_call (Some calls) number = slice_get calls number
 abbrev pub call_at : List ℕ → CallRecord → Call
 call_at buffer call = record { kind = call.kind; name = text_at buffer call.name }
 
+-- the calls that are recorded in a buffer, where they are told
 abbrev pub call_log : List ℕ → List CallRecord → Bool → Option (List Call)
 call_log buffer records is_told = if is_told then Some (map (call_at buffer) records) else None
 

@@ -32,6 +32,7 @@ latest before (put ∷ puts) name = latest (if bytes_eq name put.0 then Some put
 abbrev pub put_at : List ℕ → PutRecord → List ℕ × List ℕ
 put_at buffer put = (text_at buffer put.name, text_at buffer put.bytes)
 
+-- the puts that are recorded in a buffer, with the room that is left
 abbrev pub put_log : List ℕ → List PutRecord → ℕ → PutLogState
 put_log buffer records left = record { puts = map (put_at buffer) records; left = left }
 

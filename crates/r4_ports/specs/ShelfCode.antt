@@ -7,6 +7,7 @@ use Rattle.r4_ports.specs.declared.CallKind.TheVariants.{Fetch, Put}
 use Rattle.r4_ports.specs.Told.{Files, Call}
 use Rattle.r4_ports.specs.ShelfState.{ShelfState}
 
+-- a call is a put and no fetch, and the kind of a call by that
 abbrev pub is_put : CallKind → Bool
 is_put Fetch = false
 is_put Put = true
@@ -18,6 +19,7 @@ pub kind_of-is_put : (kind : CallKind) → kind_of (is_put kind) ≡ kind
 kind_of-is_put Fetch = refl
 kind_of-is_put Put = refl
 
+-- kinds, calls and files as plain data
 abbrev pub kind_code : Coded CallKind
 kind_code = code_by Bool coded_bool is_put kind_of kind_of-is_put
 

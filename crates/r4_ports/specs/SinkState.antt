@@ -11,6 +11,7 @@ pub record SinkState : Type 0 where
   pub calls : ℕ
   pub faults : ℕ
 
+-- a sink in memory by its parts
 abbrev pub sink_state : List ℕ → ℕ → List ℕ → ℕ → ℕ → SinkState
 sink_state written room failing calls faults = record { written = written; room = room; failing = failing; calls = calls; faults = faults }
 

@@ -4,7 +4,8 @@
 //! its faults: a call fails only where its count rose, so a failure of the program can be laid to the outside.
 //! Reading order: the faults and the traits here; `pieces`, texts in pieces of at most 128 bytes; then four
 //! implementations in memory. `sure_shelf` and `sure_sink` never fail; `mem_shelf` and `mem_sink` fail by a list,
-//! for tests of every failure. `file_list`, `spans`, `call_log` and `put_log` are their parts. The adapters to real files and streams stand in the program, not here.
+//! for tests of every failure. `file_list`, `spans`, `call_log` and `put_log` are their parts. The adapters to real files
+//! and streams stand in the program, not here.
 //!
 //! What is told is an option in the contracts (`specs/Told.antt`): a real file tells nothing, and every clause on
 //! content speaks only of what is told. Names are the bytes of their text.
@@ -25,7 +26,7 @@ pub mod sure_sink;
 
 pub use mem_shelf::MemShelf;
 pub use mem_sink::MemSink;
-pub use pieces::{Line, finish, put_all, put_line, write_all};
+pub use pieces::{finish, put_all, put_line, write_all};
 use r4_words::Memory;
 use std::alloc::Global;
 pub use sure_shelf::SureShelf;

@@ -8,13 +8,10 @@ ghost use Rattle.r4_ports.specs.Told.{Appended, AppendedPrefix, HasCause};
 ghost use Rattle.r4_ports.specs.Writing.{Puts, stand};
 
 use crate::{Sink, SinkFault};
-use arrayvec::ArrayVec;
+use r4_words::Line;
 
 /// The most bytes that one write takes.
 pub const PIECE: usize = 128;
-
-/// A line, or another text that is written as one piece.
-pub type Line = ArrayVec<u8, 128>;
 
 /// Writes a line, unless a write failed before.
 pub fn put_line<K: Sink>(line: &Line, out: &mut K, failed: &mut bool)
