@@ -1,0 +1,3 @@
+pub mod TextLength
+pub mod ListingLines
+pub mod Stopped
