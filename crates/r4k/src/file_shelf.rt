@@ -17,8 +17,11 @@ pub struct FileShelf<'a, R: Files> {
 }
 
 impl<'a, R: Files> FileShelf<'a, R> {
-    /// The files that a runtime reaches.
-    pub fn new(rt: &'a R) -> FileShelf<'a, R> {
+    /// The files that a runtime reaches, of which no call has failed.
+    pub fn new(rt: &'a R) -> FileShelf<'a, R>
+        ensures fetch_faults { result.fetch_faults ≡ 0 }
+        ensures put_faults { result.put_faults ≡ 0 }
+    {
         FileShelf {
             rt,
             fetch_faults: 0,

@@ -14,8 +14,11 @@ pub struct StdSink<W: Write + Drop> {
 }
 
 impl<W: Write + Drop> StdSink<W> {
-    /// A sink over this writer.
-    pub fn new(out: W) -> StdSink<W> {
+    /// A sink over this writer, of which no write has failed.
+    pub fn new(out: W) -> StdSink<W>
+        ensures out { result.out ≡ out }
+        ensures faults { result.faults ≡ 0 }
+    {
         StdSink { out, faults: 0 }
     }
 }

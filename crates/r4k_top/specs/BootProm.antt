@@ -23,5 +23,6 @@ handler_words =
 unfoldable pub boot_words : List ℕ
 boot_words = put_bytes (put_bytes (put_bytes (replicate 1024 0) 0 start_words) 128 refill_words) 224 handler_words
 
+-- the PROM of these words
 abbrev pub boot_prom : Prom
 boot_prom = record { words = boot_words }

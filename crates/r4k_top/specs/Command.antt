@@ -2,12 +2,13 @@
 use Rattle.std.specs.Prelude.{ℕ, ◌==◌, Bool, List, [], ◌∷◌, length, codes, bytes_eq, string_bytes, slice_get, String, Vec, ◌&&◌, if◌then◌else◌, Option, Some, None}
 use Rattle.std.specs.declared.alloc.Global.{Global}
 use Rattle.r4_words.specs.Texts.{read_dec}
-use Rattle.r4_ports.specs.Told.{Call, fetch_of}
+use Rattle.r4_ports.specs.Told.{Call, fetch_of, put_of}
 
 -- the words after the program's name
 abbrev pub Words : Type 0
 Words = Vec (String Global) Global
 
+-- the bytes of a word, none where it is missing
 abbrev pub text_of : Option (String Global) → List ℕ
 text_of (Some text) = string_bytes text
 text_of None = []
@@ -16,10 +17,14 @@ text_of None = []
 abbrev pub word : Words → ℕ → List ℕ
 word words at = text_of (slice_get words.items at)
 
--- a run of an image: the name of its file, and the bound on the number of ticks
-pub record Command : Type 0 where
-  pub image : List ℕ
-  pub steps : ℕ
+-- what the words ask for; files go by their names
+pub data Command : Type 0 where
+  -- a run of an image, within a bound on the number of its ticks
+  Run : List ℕ → ℕ → Command
+  -- the image of a source, put under a name
+  Assemble : List ℕ → List ℕ → Command
+  -- the listing of an image
+  Disassemble : List ℕ → Command
 
 -- the words `run pc/16 IMAGE - - STEPS`, whatever IMAGE and STEPS are
 abbrev pub is_run : Words → Bool
@@ -28,15 +33,54 @@ is_run words =
     && bytes_eq (word words 0) (codes "run") && bytes_eq (word words 1) (codes "pc/16")
     && bytes_eq (word words 3) (codes "-") && bytes_eq (word words 4) (codes "-")
 
-abbrev pub with_steps : List ℕ → Option ℕ → Option Command
-with_steps image (Some steps) = Some (record { image = image; steps = steps })
-with_steps image None = None
+-- the words `asm SOURCE OUT`, whatever SOURCE and OUT are
+abbrev pub is_asm : Words → Bool
+is_asm words = (length words.items == 3) && bytes_eq (word words 0) (codes "asm")
 
--- the command of the words: none where they do not match, or STEPS is no decimal text of a number below 2 ^ 32
+-- the words `dis IMAGE`, whatever IMAGE is
+abbrev pub is_dis : Words → Bool
+is_dis words = (length words.items == 2) && bytes_eq (word words 0) (codes "dis")
+
+-- a run for so many ticks, if the number is there
+abbrev pub run_for : List ℕ → Option ℕ → Option Command
+run_for image (Some steps) = Some (Run image steps)
+run_for image None = None
+
+-- a run for so many ticks as a text says: none where it is no decimal text of a number below 2 ^ 32
+abbrev pub run_with : List ℕ → List ℕ → Option Command
+run_with image steps = run_for image (read_dec steps)
+
+-- the command of the words: none where they match no command that is built
 unfoldable pub command_of : Words → Option Command
-command_of words = if is_run words then with_steps (word words 2) (read_dec (word words 5)) else None
+command_of words =
+    if is_run words then run_with (word words 2) (word words 5)
+    else if is_asm words then Some (Assemble (word words 1) (word words 2))
+    else if is_dis words then Some (Disassemble (word words 1))
+    else None
 
--- the calls of the shelf that a command makes, in their order
+-- the name of the file that a command fetches
+abbrev pub fetched_name : Command → List ℕ
+fetched_name (Run image steps) = image
+fetched_name (Assemble source out) = source
+fetched_name (Disassemble image) = image
+
+-- the name under which a command puts a file, where it puts one
+abbrev pub put_name : Command → Option (List ℕ)
+put_name (Run image steps) = None
+put_name (Assemble source out) = Some out
+put_name (Disassemble image) = None
+
+-- the put to a name, where there is one
+abbrev pub puts_to : Option (List ℕ) → List Call
+puts_to None = []
+puts_to (Some name) = put_of name ∷ []
+
+-- the fetch that a command begins with
+abbrev pub fetches_of : Option Command → List Call
+fetches_of None = []
+fetches_of (Some command) = fetch_of (fetched_name command) ∷ []
+
+-- the calls of the shelf that a command makes, in their order: its fetch, and then its put
 abbrev pub calls_of : Option Command → List Call
 calls_of None = []
-calls_of (Some command) = fetch_of command.image ∷ []
+calls_of (Some command) = fetch_of (fetched_name command) ∷ puts_to (put_name command)

@@ -1,7 +1,8 @@
 pub mod Command
+pub mod CommandShown
 pub mod BootProm
 pub mod Outcome
-pub mod Ends
+pub mod EndShown
 pub mod Clauses
 pub mod StatusText
 pub mod Answers

@@ -1,17 +1,36 @@
 //! Commands, read from the words by their positions.
 
-ghost use Rattle.std.specs.Prelude.{◌≡◌, IfSome, IsNone, Some, ◌↔◌};
-ghost use Rattle.r4k_top.specs.Command.{word, command_of};
+ghost use Rattle.std.specs.Prelude.{◌≡◌, IfSome, IsNone, Some, ◌↔◌, IsTrue};
+ghost use Rattle.r4k_top.specs.Command.{word, command_of, is_run, is_asm, is_dis, run_with};
+ghost use Rattle.r4k_top.specs.CommandShown.{command_shown};
 
 use r4_words::read_dec;
 
-/// `run pc/16 IMAGE - - STEPS`: runs an image, without a script and a disk.
+/// What the words ask for. Files go by their names on the shelf.
 #[derive(Clone, Copy)]
-pub struct Command<'a> {
-    /// The name of the image's file.
-    pub image: &'a str,
-    /// The bound on the number of ticks.
-    pub steps: u32,
+pub enum Command<'a> {
+    /// `run pc/16 IMAGE - - STEPS`: runs an image for at most so many ticks, without a script and a disk.
+    Run { image: &'a str, steps: u32 },
+    /// `asm SOURCE OUT`: puts the image of a source.
+    Assemble { source: &'a str, out: &'a str },
+    /// `dis IMAGE`: writes the listing of an image.
+    Disassemble { image: &'a str },
+}
+
+impl<'a> Command<'a> {
+    ghost use Rattle.std.specs.Prelude.{◌≡◌};
+    ghost use Rattle.r4k_top.specs.Command.{fetched_name};
+    ghost use Rattle.r4k_top.specs.CommandShown.{command_shown};
+
+    /// The name of the file that the command fetches.
+    pub fn file(&self) -> &'a str
+        ensures { result.now ≡ fetched_name (command_shown self.now) }
+    {
+        match *self {
+            Command::Run { image, .. } | Command::Disassemble { image } => image,
+            Command::Assemble { source, .. } => source,
+        }
+    }
 }
 
 // The word at a position, or an empty text.
@@ -24,27 +43,56 @@ fn word<'a>(words: &'a Vec<String>, at: usize) -> &'a str
     }
 }
 
+// Whether the words are those of a run, whatever its image and its bound.
+fn is_run(words: &Vec<String>) -> bool
+    ensures { result ≡ is_run words.now }
+{
+    let is_named = words.len() == 6 && word(words, 0) == "run";
+    is_named && word(words, 1) == "pc/16" && word(words, 3) == "-" && word(words, 4) == "-"
+}
+
+fn is_asm(words: &Vec<String>) -> bool
+    ensures { result ≡ is_asm words.now }
+{
+    words.len() == 3 && word(words, 0) == "asm"
+}
+
+fn is_dis(words: &Vec<String>) -> bool
+    ensures { result ≡ is_dis words.now }
+{
+    words.len() == 2 && word(words, 0) == "dis"
+}
+
+// A run for so many ticks as the text says, None where it is no decimal text.
+fn run_with<'a>(image: &'a str, steps: &str) -> Option<Command<'a>>
+    ensures none { IsNone result ↔ IsNone (run_with image.now steps.now) }
+    ensures some { IfSome result (λ command. run_with image.now steps.now ≡ Some (command_shown command)) }
+{
+    match read_dec(steps.as_bytes()) {
+        Some(steps) => Some(Command::Run { image, steps }),
+        None => None,
+    }
+}
+
 /// The command of the words, None where they are no command that is built.
 #[tactic(auto, unfolding(crate::specs::Command::command_of))]
 pub fn read_command<'a>(words: &'a Vec<String>) -> Option<Command<'a>>
     ensures none { IsNone result ↔ IsNone (command_of words.now) }
-    ensures some { IfSome result (λ command. command_of words.now ≡ Some (record { image = command.image.now; steps = command.steps })) }
+    ensures some { IfSome result (λ command. command_of words.now ≡ Some (command_shown command)) }
 {
-    if words.len() != 6 {
-        return None;
+    if is_run(words) {
+        return run_with(word(words, 2), word(words, 5));
     }
-    let is_run = word(words, 0) == "run";
-    let is_shape = word(words, 1) == "pc/16";
-    let no_script = word(words, 3) == "-";
-    let no_disk = word(words, 4) == "-";
-    if !(is_run && is_shape && no_script && no_disk) {
-        return None;
+    if is_asm(words) {
+        return Some(Command::Assemble {
+            source: word(words, 1),
+            out: word(words, 2),
+        });
     }
-    match read_dec(word(words, 5).as_bytes()) {
-        Some(steps) => Some(Command {
-            image: word(words, 2),
-            steps,
-        }),
-        None => None,
+    if is_dis(words) {
+        return Some(Command::Disassemble {
+            image: word(words, 1),
+        });
     }
+    None
 }

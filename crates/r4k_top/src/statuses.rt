@@ -7,6 +7,7 @@ ghost use Rattle.r4k_top.specs.StatusText as law;
 
 use elf_image::ImageRule;
 use machine_core::Part;
+use mips_text::AsmWhy;
 use r4_ports::{Sink, SinkFault, write_all};
 use r4_words::{Line, put_dec, put_text};
 
@@ -23,6 +24,8 @@ pub enum Status {
     WriteFault,
     /// The image breaks this rule, at this offset in its file; it is the first rule that it breaks.
     BadImage { rule: ImageRule, offset: u32 },
+    /// The source is refused: its first bad line, numbered from 1, and the first reason that holds for it.
+    BadSource { line: u32, why: AsmWhy },
     /// There was not enough memory.
     Memory,
     /// A file has more bytes than its limit.
@@ -41,6 +44,7 @@ pub fn status_number(status: &Status) -> u8
         Status::ReadFault => 3,
         Status::WriteFault => 4,
         Status::BadImage { .. } => 5,
+        Status::BadSource { .. } => 7,
         Status::Memory => 8,
         Status::TooLong => 10,
         Status::Unbuilt { .. } => 11,
@@ -75,6 +79,21 @@ fn rule_name(rule: ImageRule) -> &'static [u8]
     }
 }
 
+// The name of a reason.
+fn why_name(why: AsmWhy) -> &'static [u8]
+    ensures name { result.now ≡ law.why_name why }
+    ensures short { length result.now ≤ 7 }
+{
+    match why {
+        AsmWhy::Unknown => b"Unknown",
+        AsmWhy::Operand => b"Operand",
+        AsmWhy::Range => b"Range",
+        AsmWhy::Twice => b"Twice",
+        AsmWhy::NoLabel => b"NoLabel",
+        AsmWhy::Align => b"Align",
+    }
+}
+
 // The line of BadImage.
 fn bad_image_line(rule: ImageRule, offset: u32) -> Line
     ensures text { result.items ≡ law.bad_image_line rule offset }
@@ -84,6 +103,19 @@ fn bad_image_line(rule: ImageRule, offset: u32) -> Line
     put_text(rule_name(rule), &mut line);
     put_text(b" ", &mut line);
     put_dec(u64::from(offset), &mut line);
+    put_text(b"\n", &mut line);
+    line
+}
+
+// The line of BadSource.
+fn bad_source_line(number: u32, why: AsmWhy) -> Line
+    ensures text { result.items ≡ law.bad_source_line number why }
+{
+    let mut line = Line::new();
+    put_text(b"BadSource ", &mut line);
+    put_dec(u64::from(number), &mut line);
+    put_text(b" ", &mut line);
+    put_text(why_name(why), &mut line);
     put_text(b"\n", &mut line);
     line
 }
@@ -121,6 +153,7 @@ fn status_line(status: &Status) -> Line
         Status::ReadFault => line_of(b"ReadFault\n"),
         Status::WriteFault => line_of(b"WriteFault\n"),
         Status::BadImage { rule, offset } => bad_image_line(*rule, *offset),
+        Status::BadSource { line, why } => bad_source_line(*line, *why),
         Status::Memory => line_of(b"Memory\n"),
         Status::TooLong => line_of(b"TooLong\n"),
         Status::Unbuilt { tick, part } => unbuilt_line(*tick, *part),
