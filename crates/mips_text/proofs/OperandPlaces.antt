@@ -8,7 +8,7 @@ use Rattle.mips_text.specs.Names.{register_name, cp0_name}
 use Rattle.mips_text.specs.Values.{hex_text, signed_text}
 use Rattle.r4_words.specs.Texts.{dec_of}
 use Rattle.mips_text.specs.Forms.{Field, Rs, Rd, Imm, Operand, Register, Cp0Register, Decimal, Hexadecimal, Signed, Based, BranchTarget, JumpTarget, ARegister, ACp0Register, ANumber, ATarget, AMark, Unsigned, WithSign, expected_of, separated}
-use Rattle.mips_text.specs.Printed.{field_of, branch_target, jump_target, based_text, operand_text, with_commas, after_name}
+use Rattle.mips_text.specs.Printed.{field_of, branch_target, jump_target, based_text, operand_text, with_commas, after_name, OperandFits, AllFit}
 use Rattle.mips_text.proofs.Pieces.{Piece, is_end, IsPiece, text_of_pieces, Chain, Spells, line_of_one, line_of_more, register_piece, cp0_piece, decimal_piece, hexadecimal_piece, signed_piece, mark_piece}
 use Rattle.mips_text.proofs.Places.{Place, place, pieces_at, expected_at, NoColon}
 
@@ -42,21 +42,6 @@ abbrev pub places_of : Inst → ℕ → List Operand → List Place
 places_of inst at [] = []
 places_of inst at (one ∷ []) = places_before inst at one []
 places_of inst at (one ∷ next ∷ more) = places_before inst at one (mark_place 44 ∷ places_of inst at (next ∷ more))
-
--- what an operand says is in range, so that its text says it
-abbrev pub OperandFits : Inst → Operand → Type 0
-OperandFits inst (Register field) = field_of field inst < 32
-OperandFits inst Cp0Register = inst.rd < 32
-OperandFits inst (Decimal field width) = (field_of field inst < 2 ^ width) × (2 ^ width ≤ 2 ^ 32)
-OperandFits inst (Hexadecimal field width) = (field_of field inst < 2 ^ width) × (2 ^ width ≤ 2 ^ 32)
-OperandFits inst Signed = inst.imm < 2 ^ 16
-OperandFits inst Based = (inst.imm < 2 ^ 16) × (inst.rs < 32)
-OperandFits inst BranchTarget = inst.imm < 2 ^ 16
-OperandFits inst JumpTarget = inst.imm < 2 ^ 26
-
-abbrev pub AllFit : Inst → List Operand → Type 0
-AllFit inst [] = Unit {0}
-AllFit inst (one ∷ more) = OperandFits inst one × AllFit inst more
 
 -- what is expected
 expected_before : (inst : Inst) (at : ℕ) (one : Operand) (more : List Place) → expected_at (places_before inst at one more) ≡ expected_of one ++ expected_at more

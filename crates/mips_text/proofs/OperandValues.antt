@@ -7,11 +7,11 @@ use Rattle.mips_text.specs.Names.{register_name, cp0_name}
 use Rattle.r4_words.specs.Texts.{dec_of}
 use Rattle.mips_text.specs.Values.{hex_text, signed_text, number_of, bounded}
 use Rattle.mips_text.specs.Forms.{Field, Rs, Rd, Imm, Operand, Register, Cp0Register, Decimal, Hexadecimal, Signed, Based, BranchTarget, JumpTarget, ACp0Register, ANumber, Unsigned, WithSign, in_range}
-use Rattle.mips_text.specs.Printed.{field_of, sign_extended, branch_target, jump_target}
+use Rattle.mips_text.specs.Printed.{field_of, sign_extended, branch_target, jump_target, OperandFits, AllFit}
 use Rattle.mips_text.specs.Line.{natural, number_value, in_bits, register_value, cp0_register_value, with_field}
 use Rattle.mips_text.proofs.ReadValues.{register_read, cp0_read, decimal_read, hexadecimal_read, signed_value, signed_read}
 use Rattle.mips_text.proofs.Places.{Place, place, Agrees, AllAgree, with_places}
-use Rattle.mips_text.proofs.OperandPlaces.{register_place, signed_place, target_place, mark_place, places_before, places_of, OperandFits, AllFit}
+use Rattle.mips_text.proofs.OperandPlaces.{register_place, signed_place, target_place, mark_place, places_before, places_of}
 
 -- a general register
 register_agrees : (field : Field) (register : ℕ) → register < 32 → Agrees (register_place field register)

@@ -1,7 +1,7 @@
 -- The printed text of an instruction.
 -- Source: the operand forms of the MIPS R4000 Microprocessor User's Manual, 2nd edition (Heinrich), appendix A, and of
 -- its jumps and branches the target's address.
-use Rattle.std.specs.Prelude.{ℕ, ◌+◌, ◌-◌, ◌*◌, ◌/◌, ◌%◌, ◌^◌, ◌==◌, nat_lt, if◌then◌else◌, List, [], ◌∷◌, ◌++◌, map, codes, Option, Some, None}
+use Rattle.std.specs.Prelude.{ℕ, ◌<◌, ◌≤◌, ◌+◌, ◌-◌, ◌*◌, ◌/◌, ◌%◌, ◌^◌, ◌==◌, nat_lt, if◌then◌else◌, List, [], ◌∷◌, ◌++◌, map, codes, Option, Some, None}
 use Rattle.r4_words.specs.Texts.{dec_of}
 use Rattle.mips3_table.specs.declared.instruction.Inst.{Inst}
 use Rattle.mips3_table.specs.declared.operand_forms.Form.{Form}
@@ -45,6 +45,22 @@ operand_text inst at Signed = signed_text inst.imm
 operand_text inst at Based = based_text inst.imm inst.rs
 operand_text inst at BranchTarget = hex_text (branch_target at inst.imm)
 operand_text inst at JumpTarget = hex_text (jump_target at inst.imm)
+
+-- the fields that an operand says are in range, so that its text says them
+abbrev pub OperandFits : Inst → Operand → Type 0
+OperandFits inst (Register field) = field_of field inst < 32
+OperandFits inst Cp0Register = inst.rd < 32
+OperandFits inst (Decimal field width) = (field_of field inst < 2 ^ width) × (2 ^ width ≤ 2 ^ 32)
+OperandFits inst (Hexadecimal field width) = (field_of field inst < 2 ^ width) × (2 ^ width ≤ 2 ^ 32)
+OperandFits inst Signed = inst.imm < 2 ^ 16
+OperandFits inst Based = (inst.imm < 2 ^ 16) × (inst.rs < 32)
+OperandFits inst BranchTarget = inst.imm < 2 ^ 16
+OperandFits inst JumpTarget = inst.imm < 2 ^ 26
+
+-- the same of each operand
+abbrev pub AllFit : Inst → List Operand → Type 0
+AllFit inst [] = Unit {0}
+AllFit inst (one ∷ more) = OperandFits inst one × AllFit inst more
 
 -- the texts of the operands of a form
 abbrev pub operand_texts : Form → Inst → ℕ → List (List ℕ)

@@ -10,6 +10,7 @@
 //! names, numbers and texts stand for; the text of each kind of operand, the text of an instruction.
 #![tactic(auto)]
 
+mod forms;
 mod item;
 mod lexing;
 mod names;
@@ -22,6 +23,7 @@ mod texts;
 mod token;
 mod writing;
 
+pub use forms::operands_of;
 pub use item::{Bytes, Item, Line, Name, Target, Words};
 pub use lexing::tokens;
 pub use operand::{Expected, Field, Operand, Range};
