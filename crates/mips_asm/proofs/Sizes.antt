@@ -3,7 +3,8 @@ use Rattle.std.proofs.Common.{◌≡◌, ◌+◌, ◌-◌, ◌≤◌, ◌||◌, 
 use Rattle.std.proofs.lemmas.Grind.{common_steps}
 use Rattle.mips_text.specs.declared.reason.AsmWhy.{AsmWhy}
 use Rattle.mips_text.specs.declared.reason.AsmWhy.TheVariants as why
-use Rattle.mips_text.specs.Line.{Line, Reading, Read, Refused, read_line}
+use Rattle.mips_text.specs.declared.item.Line.{Line}
+use Rattle.mips_text.specs.Line.{Reading, Read, Refused, read_line}
 use Rattle.mips_asm.specs.Layout.{Place, size_of, place_after, fault_at, moves_wrongly, stands_twice, breaks_alignment, most_bytes}
 use Rattle.mips_text.specs.Coded.{Coded, Given, Lacking, coded_of}
 use Rattle.mips_asm.specs.Assembly.{Laid, Stopped, first_pass, SecondPass, Filled, Missing, with_bytes, fill_line, item_read, second_pass}

@@ -5,7 +5,8 @@
 -- mips_text, specs/Line.antt and specs/Coded.antt.
 use Rattle.std.specs.Prelude.{ℕ, ◌+◌, List, [], ◌∷◌, ◌++◌, Option, Some, None, codes, unwrap_or}
 use Rattle.mips_text.specs.declared.reason.AsmWhy.{AsmWhy}
-use Rattle.mips_text.specs.Line.{Item, Reading, Read, Refused, read_line}
+use Rattle.mips_text.specs.declared.item.Item.{Item}
+use Rattle.mips_text.specs.Line.{Reading, Read, Refused, read_line}
 use Rattle.mips_text.specs.Coded.{Coded, Given, Lacking, coded_of, label_at}
 use Rattle.mips_asm.specs.Layout.{Place, lines_of, base_of, size_of, place_after, fault_at}
 

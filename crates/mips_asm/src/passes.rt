@@ -5,21 +5,21 @@ ghost use Rattle.mips_text.specs.Line as line_law;
 ghost use Rattle.mips_text.specs.Coded as coded;
 ghost use Rattle.mips_asm.specs.Layout as layout;
 ghost use Rattle.mips_asm.specs.Assembly as law;
-ghost use Rattle.mips_asm.specs.Shown.{IsCoded, IsSoundLine, item_shown, line_shown};
+ghost use Rattle.mips_asm.specs.Shown.{IsCoded, IsSoundLine};
 ghost use Rattle.mips_asm.specs.PassesOf.{IsFirstPass, IsLaid, IsRefused, IsSecondPass, place_at};
 
 use crate::built::{AsmFault, Built};
 use crate::coding::{Stop, put_item};
-use crate::items::{Item, Line};
 use crate::labels::Labels;
 use crate::layout::{USUAL_BASE, fault_at, puts_first_byte, size_of};
 use crate::reading::read_line;
 use crate::sources::split_line;
+use mips_text::{Item, Line};
 use std::alloc::Global;
 
 /// The base that a statement decides, if it does.
 fn decided_base(item: &Item) -> Option<u32>
-    ensures { (later : ℕ) → unwrap_or result later ≡ layout.base_by_item (Some (item_shown item.now)) later }
+    ensures { (later : ℕ) → unwrap_or result later ≡ layout.base_by_item (Some item.now) later }
 {
     if let Item::Origin(address) = item {
         return Some(*address);
@@ -76,15 +76,15 @@ fn lay_line(
     requires after { base ≤ address }
     requires near { address ≤ base + 8388608 }
     requires sound { IsSoundLine line.now }
-    ensures laid { IsLaid (layout.fault_at base (place_at address labels.old) (line_shown line.now)) (layout.place_after (place_at address labels.old) (line_shown line.now)) result labels.new }
+    ensures laid { IsLaid (layout.fault_at base (place_at address labels.old) line.now) (layout.place_after (place_at address labels.old) line.now) result labels.new }
     ensures after { IfOk result (λ next. base ≤ next) }
     ensures near { IfOk result (λ next. next ≤ base + 8388608) }
 {
     if let Some(why) = fault_at(base, address, labels, line) {
         return Err(Stop::Lacks(why));
     }
-    if let Some(name) = line.label {
-        labels.add(alloc, name, (address % 0x100000000) as u32)?;
+    if let Some(name) = &line.label {
+        labels.add(alloc, name.text(), (address % 0x100000000) as u32)?;
     }
     Ok(address + size_of(address, &line.item))
 }

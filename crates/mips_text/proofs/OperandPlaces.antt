@@ -7,7 +7,13 @@ use Rattle.mips_text.specs.Tokens.{tokens_of}
 use Rattle.mips_text.specs.Names.{register_name, cp0_name}
 use Rattle.mips_text.specs.Values.{hex_text, signed_text}
 use Rattle.r4_words.specs.Texts.{dec_of}
-use Rattle.mips_text.specs.Forms.{Field, Rs, Rd, Imm, Operand, Register, Cp0Register, Decimal, Hexadecimal, Signed, Based, BranchTarget, JumpTarget, ARegister, ACp0Register, ANumber, ATarget, AMark, Unsigned, WithSign, expected_of, separated}
+use Rattle.mips_text.specs.declared.operand.Field.{Field}
+use Rattle.mips_text.specs.declared.operand.Field.TheVariants.{Rs, Rd, Imm}
+use Rattle.mips_text.specs.declared.operand.Operand.{Operand}
+use Rattle.mips_text.specs.declared.operand.Operand.TheVariants.{Register, Cp0Register, Decimal, Hexadecimal, Signed, Based, BranchTarget, JumpTarget}
+use Rattle.mips_text.specs.declared.operand.Expected.TheVariants.{ARegister, ACp0Register, ANumber, ATarget, AMark}
+use Rattle.mips_text.specs.declared.operand.Range.TheVariants.{Unsigned, WithSign}
+use Rattle.mips_text.specs.Forms.{expected_of, separated}
 use Rattle.mips_text.specs.Printed.{field_of, branch_target, jump_target, based_text, operand_text, with_commas, after_name, OperandFits, AllFit}
 use Rattle.mips_text.proofs.Pieces.{Piece, is_end, IsPiece, text_of_pieces, Chain, Spells, line_of_one, line_of_more, register_piece, cp0_piece, decimal_piece, hexadecimal_piece, signed_piece, mark_piece}
 use Rattle.mips_text.proofs.Places.{Place, place, pieces_at, expected_at, NoColon}

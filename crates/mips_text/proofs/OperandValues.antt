@@ -6,7 +6,13 @@ use Rattle.mips_text.specs.declared.token.TokenKind.TheVariants.{Name, Number}
 use Rattle.mips_text.specs.Names.{register_name, cp0_name}
 use Rattle.r4_words.specs.Texts.{dec_of}
 use Rattle.mips_text.specs.Values.{hex_text, signed_text, number_of, bounded}
-use Rattle.mips_text.specs.Forms.{Field, Rs, Rd, Imm, Operand, Register, Cp0Register, Decimal, Hexadecimal, Signed, Based, BranchTarget, JumpTarget, ACp0Register, ANumber, Unsigned, WithSign, in_range}
+use Rattle.mips_text.specs.declared.operand.Field.{Field}
+use Rattle.mips_text.specs.declared.operand.Field.TheVariants.{Rs, Rd, Imm}
+use Rattle.mips_text.specs.declared.operand.Operand.{Operand}
+use Rattle.mips_text.specs.declared.operand.Operand.TheVariants.{Register, Cp0Register, Decimal, Hexadecimal, Signed, Based, BranchTarget, JumpTarget}
+use Rattle.mips_text.specs.declared.operand.Expected.TheVariants.{ACp0Register, ANumber}
+use Rattle.mips_text.specs.declared.operand.Range.TheVariants.{Unsigned, WithSign}
+use Rattle.mips_text.specs.Forms.{in_range}
 use Rattle.mips_text.specs.Printed.{field_of, sign_extended, branch_target, jump_target, OperandFits, AllFit}
 use Rattle.mips_text.specs.Line.{natural, number_value, in_bits, register_value, cp0_register_value, with_field}
 use Rattle.mips_text.proofs.ReadValues.{register_read, cp0_read, decimal_read, hexadecimal_read, signed_value, signed_read}

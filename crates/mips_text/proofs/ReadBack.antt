@@ -11,10 +11,12 @@ use Rattle.mips_text.specs.declared.reason.AsmWhy.TheVariants as why
 use Rattle.mips_text.specs.declared.token.TokenKind.TheVariants.{Name}
 use Rattle.mips_text.specs.Tokens.{tokens_of, cut_from, start_of}
 use Rattle.mips_text.specs.Values.{hex_text}
-use Rattle.mips_text.specs.Forms.{operands_of, row_named, statement_named, Instruction}
+use Rattle.mips_text.specs.declared.statement.Statement.TheVariants.{Instruction}
+use Rattle.mips_text.specs.Forms.{operands_of, row_named, statement_named}
 use Rattle.mips_text.specs.Printed.{sign_extended, branch_target, jump_target, AllFit, by_form, text_of}
 use Rattle.mips_text.proofs.FormOperands.{fit_form, few_operands}
-use Rattle.mips_text.specs.Line.{Words, read_line, read_statement, operands_fault, item_of, read_cut, parts_of, fitted, bare, natural, number_value}
+use Rattle.mips_text.specs.declared.item.Item.TheVariants.{Words}
+use Rattle.mips_text.specs.Line.{read_line, read_statement, operands_fault, item_of, read_cut, parts_of, fitted, bare, natural, number_value}
 use Rattle.mips_text.specs.Coded.{Lacking, distance_to, word_number, word_of, branch_to, jump_to, coded_at}
 use Rattle.mips_text.specs.ReadBack.{ReadsAs}
 use Rattle.mips_text.proofs.Pieces.{piece, row_piece}

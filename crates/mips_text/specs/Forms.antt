@@ -10,16 +10,16 @@ use Rattle.mips_text.specs.declared.token.TokenKind.{TokenKind}
 use Rattle.mips_text.specs.declared.token.TokenKind.TheVariants.{Name, Number, Text, Mark}
 use Rattle.mips_text.specs.Names.{register_of, cp0_register_of}
 use Rattle.mips_text.specs.Values.{number_of, bytes_of_text}
-pub use Rattle.mips_text.specs.declared.operand.Field.{Field}
-pub use Rattle.mips_text.specs.declared.operand.Field.TheVariants.{Rs, Rt, Rd, Sa, Imm}
-pub use Rattle.mips_text.specs.declared.operand.Operand.{Operand}
-pub use Rattle.mips_text.specs.declared.operand.Operand.TheVariants.{Register, Cp0Register, Decimal, Hexadecimal, Signed, Based, BranchTarget, JumpTarget}
-pub use Rattle.mips_text.specs.declared.operand.Range.{Range}
-pub use Rattle.mips_text.specs.declared.operand.Range.TheVariants.{Unsigned, WithSign, EitherSign, AnyNumber}
-pub use Rattle.mips_text.specs.declared.operand.Expected.{Expected}
-pub use Rattle.mips_text.specs.declared.operand.Expected.TheVariants.{ARegister, ACp0Register, ANumber, ATarget, ALabel, AText, AMark}
-pub use Rattle.mips_text.specs.declared.statement.Statement.{Statement}
-pub use Rattle.mips_text.specs.declared.statement.Statement.TheVariants.{Instruction, Li, La, Move, Nop, Branch, Org, Word, Byte, Space, Align, Ascii}
+use Rattle.mips_text.specs.declared.operand.Field.{Field}
+use Rattle.mips_text.specs.declared.operand.Field.TheVariants.{Rs, Rt, Rd, Sa, Imm}
+use Rattle.mips_text.specs.declared.operand.Operand.{Operand}
+use Rattle.mips_text.specs.declared.operand.Operand.TheVariants.{Register, Cp0Register, Decimal, Hexadecimal, Signed, Based, BranchTarget, JumpTarget}
+use Rattle.mips_text.specs.declared.operand.Range.{Range}
+use Rattle.mips_text.specs.declared.operand.Range.TheVariants.{Unsigned, WithSign, EitherSign, AnyNumber}
+use Rattle.mips_text.specs.declared.operand.Expected.{Expected}
+use Rattle.mips_text.specs.declared.operand.Expected.TheVariants.{ARegister, ACp0Register, ANumber, ATarget, ALabel, AText, AMark}
+use Rattle.mips_text.specs.declared.statement.Statement.{Statement}
+use Rattle.mips_text.specs.declared.statement.Statement.TheVariants.{Instruction, Li, La, Move, Nop, Branch, Org, Word, Byte, Space, Align, Ascii}
 
 -- The operands of each form, in the order of the text.
 abbrev pub operands_of : Form → List Operand

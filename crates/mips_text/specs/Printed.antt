@@ -9,7 +9,11 @@ use Rattle.mips3_table.specs.Rows.{row_at}
 use Rattle.mips3_code.specs.Coding.{decoded, encoded}
 use Rattle.mips_text.specs.Names.{register_name, cp0_name}
 use Rattle.mips_text.specs.Values.{hex_text, signed_text}
-use Rattle.mips_text.specs.Forms.{Field, Rs, Rt, Rd, Sa, Imm, Operand, Register, Cp0Register, Decimal, Hexadecimal, Signed, Based, BranchTarget, JumpTarget, operands_of}
+use Rattle.mips_text.specs.declared.operand.Field.{Field}
+use Rattle.mips_text.specs.declared.operand.Field.TheVariants.{Rs, Rt, Rd, Sa, Imm}
+use Rattle.mips_text.specs.declared.operand.Operand.{Operand}
+use Rattle.mips_text.specs.declared.operand.Operand.TheVariants.{Register, Cp0Register, Decimal, Hexadecimal, Signed, Based, BranchTarget, JumpTarget}
+use Rattle.mips_text.specs.Forms.{operands_of}
 
 -- what a field of an instruction has
 abbrev pub field_of : Field → Inst → ℕ

@@ -1,6 +1,6 @@
 //! What a line of a source says.
 
-ghost use Rattle.std.specs.Prelude.{◌≡◌, ◌++◌, ◌≤◌, length, OnOk, OnErr};
+ghost use Rattle.std.specs.Prelude.{◌≡◌, ◌≤◌, ◌↔◌, length, IsTrue};
 
 use crate::texts::{push_text, text_size};
 use arrayvec::ArrayVec;
@@ -75,6 +75,21 @@ impl Words {
     {
         &self.list
     }
+
+    /// How many they are.
+    pub fn len(&self) -> usize
+        ensures len { result ≡ length self.now }
+        ensures few { result ≤ 64 }
+    {
+        self.list.len()
+    }
+
+    /// Whether they are none.
+    pub fn is_empty(&self) -> bool
+        ensures { IsTrue result ↔ (length self.now ≡ 0) }
+    {
+        self.list.is_empty()
+    }
 }
 
 /// Where bytes stand: as numbers, or as a text in quotes with its escapes.
@@ -101,7 +116,7 @@ impl<'a> Model for Bytes<'a> {
 }
 
 impl<'a> Bytes<'a> {
-    ghost use Rattle.std.specs.Prelude.{◌≡◌, ◌++◌, ◌≤◌, length, unwrap_or, [], OnOk, OnErr};
+    ghost use Rattle.std.specs.Prelude.{◌≡◌, ◌++◌, ◌↔◌, length, unwrap_or, [], IsTrue, OnOk};
     ghost use Rattle.mips_text.specs.Values.{bytes_of_text};
 
     /// These bytes.
@@ -126,6 +141,13 @@ impl<'a> Bytes<'a> {
             Source::Numbers(list) => list.len(),
             Source::Text(text) => text_size(text).unwrap_or(0),
         }
+    }
+
+    /// Whether they are none.
+    pub fn is_empty(&self) -> bool
+        ensures { IsTrue result ↔ (length self.now ≡ 0) }
+    {
+        self.len() == 0
     }
 
     /// Appends them.

@@ -3,7 +3,6 @@ use Rattle.std.proofs.lemmas.Grind.{common_steps}
 use Rattle.mips_asm.specs.Layout as layout
 use Rattle.mips_asm.specs.Layout.{fault_at, place_after}
 use Rattle.mips_asm.specs.Assembly.{first_pass}
-use Rattle.mips_asm.specs.Shown.{line_shown}
 use Rattle.mips_asm.specs.PassesOf.{place_at}
 use Rattle.mips_asm.proofs.PassList.{first_pass_more, first_pass_end, laid_on}
 use Rattle.mips_asm.proofs.passes.first_pass.Goals as goal
@@ -16,7 +15,7 @@ loop-rest-preserved c =
     let base = c.args.base in
     let number = c.loop-rest.number in
     let place = place_at c.loop-rest.address c.loop-rest.labels in
-    let said = line_shown c.in-Ok.line in
+    let said = c.in-Ok.line in
     let laid = laid_on (fault_at base place said) (place_after place said) c.in-Ok-lay_line.next c.lay_line.new.labels c.in-Ok-lay_line.ensures.laid in (
       ap (λ p. first_pass base (number + 1) p (layout.lines_of c.split_line-split.result.rest.now)) (sym laid.1)
           ∙ sym (first_pass_more base number place c.split_line-split.result.line.now (layout.lines_of c.split_line-split.result.rest.now) said (sym c.in-Ok.ensures.reading) laid.0)
