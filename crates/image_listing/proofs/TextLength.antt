@@ -3,6 +3,7 @@ use Rattle.std.proofs.Common.{◌≡◌, ◌<◌, ◌≤◌, ◌+◌, ◌-◌, �
 use Rattle.std.specs.Prelude.{IfSome}
 use Rattle.std.specs.List.{list_all}
 use Rattle.std.proofs.lemmas.Bool.{leb-true, and_parts}
+use Rattle.mips3_code.specs.Targets.{branch_target, jump_target}
 use Rattle.r4_words.specs.Texts.{dec_of}
 use Rattle.r4_words.proofs.Written.{length_dec_of}
 use Rattle.mips3_table.specs.declared.instruction.Inst.{Inst}
@@ -20,7 +21,7 @@ use Rattle.mips_text.specs.declared.operand.Field.TheVariants.{Rs, Rt, Rd, Sa, I
 use Rattle.mips_text.specs.declared.operand.Operand.{Operand}
 use Rattle.mips_text.specs.declared.operand.Operand.TheVariants.{Register, Cp0Register, Decimal, Hexadecimal, Signed, Based, BranchTarget, JumpTarget}
 use Rattle.mips_text.specs.Forms.{operands_of}
-use Rattle.mips_text.specs.Printed.{field_of, branch_target, jump_target, based_text, operand_text, operand_texts, with_commas, after_name, by_form, text_of, decoded_text, word_text}
+use Rattle.mips_text.specs.Printed.{field_of, based_text, operand_text, operand_texts, with_commas, after_name, by_form, text_of, decoded_text, word_text}
 use Rattle.mips_text.proofs.Digits.{length_hex_digits_of}
 use Rattle.mips_text.proofs.RowNames.{length_name}
 

@@ -1,6 +1,7 @@
 -- Whole sources, computed by the definitions alone.
 use Rattle.std.proofs.Common.{◌≡◌, [], ◌∷◌, refl}
 use Rattle.std.specs.Prelude.{codes}
+use Rattle.mips3_code.specs.Targets.{branch_target, jump_target}
 use Rattle.flat_ram.specs.Bytes.{zeros_of}
 use Rattle.mips3_table.specs.Rows.{rows, row_at}
 use Rattle.mips3_code.specs.Coding.{encoded}
@@ -9,8 +10,8 @@ use Rattle.mips_text.specs.Tokens.{tokens_of, cut_from, start_of}
 use Rattle.mips_text.specs.Names.{register_names, register_of, cp0_names, cp0_register_of}
 use Rattle.mips_text.specs.Values.{number_of, bytes_of_text}
 use Rattle.mips_text.specs.Forms.{row_named, statement_named}
-use Rattle.mips_text.specs.Printed.{branch_target, jump_target}
 use Rattle.mips_text.specs.Line.{operands_fault, item_of, read_statement, read_line}
+use Rattle.mips_text.proofs.Reached.{distance_is, number_is}
 use Rattle.mips_asm.specs.Layout.{base_of, size_at, fault_at}
 use Rattle.mips_text.specs.Coded.{distance_to, word_number, branch_to, jump_to, loading, bytes_of_words, coded_at}
 use Rattle.mips_asm.specs.Assembly.{Image, Bad, first_pass, second_pass, assembled}
@@ -76,8 +77,8 @@ unfolding assembled base_of read_line read_statement item_of operands_fault size
 unknown_before_operand = refl
 
 a_label_of_a_number : assembled (codes "$5: j $5") ≡ Image 0x80010000 0x80010000 (bytes_of_words (0x08004000 ∷ []))
-unfolding assembled base_of read_line read_statement item_of operands_fault size_at fault_at first_pass second_pass coded_at loading branch_to jump_to distance_to word_number tokens_of cut_from start_of register_of register_names cp0_register_of cp0_names statement_named row_named row_at rows number_of bytes_of_text encoded branch_target jump_target zeros_of
-a_label_of_a_number = refl
+unfolding assembled base_of read_line read_statement item_of operands_fault size_at fault_at first_pass second_pass coded_at loading branch_to jump_to tokens_of cut_from start_of register_of register_names cp0_register_of cp0_names statement_named row_named row_at rows number_of bytes_of_text encoded branch_target jump_target zeros_of
+a_label_of_a_number = rw (number_is 0x80010000 0x80010000) refl
 
 no_such_register : assembled (codes "jr $32") ≡ Bad 1 why.Unknown
 unfolding assembled base_of read_line read_statement item_of operands_fault size_at fault_at first_pass second_pass coded_at loading branch_to jump_to distance_to word_number tokens_of cut_from start_of register_of register_names cp0_register_of cp0_names statement_named row_named row_at rows number_of bytes_of_text encoded branch_target jump_target zeros_of
@@ -164,36 +165,36 @@ unfolding assembled base_of read_line read_statement item_of operands_fault size
 the_address_of_a_label = refl
 
 a_branch_that_just_reaches : assembled (codes "b 0x80030000") ≡ Image 0x80010000 0x80010000 (bytes_of_words (0x10007fff ∷ []))
-unfolding assembled base_of read_line read_statement item_of operands_fault size_at fault_at first_pass second_pass coded_at loading branch_to jump_to distance_to word_number tokens_of cut_from start_of register_of register_names cp0_register_of cp0_names statement_named row_named row_at rows number_of bytes_of_text encoded branch_target jump_target zeros_of
-a_branch_that_just_reaches = refl
+unfolding assembled base_of read_line read_statement item_of operands_fault size_at fault_at first_pass second_pass coded_at loading branch_to jump_to tokens_of cut_from start_of register_of register_names cp0_register_of cp0_names statement_named row_named row_at rows number_of bytes_of_text encoded branch_target jump_target zeros_of
+a_branch_that_just_reaches = rw (distance_is 0x80010000 0x80030000) refl
 
 a_branch_too_far : assembled (codes "b 0x80030004") ≡ Bad 1 why.Range
-unfolding assembled base_of read_line read_statement item_of operands_fault size_at fault_at first_pass second_pass coded_at loading branch_to jump_to distance_to word_number tokens_of cut_from start_of register_of register_names cp0_register_of cp0_names statement_named row_named row_at rows number_of bytes_of_text encoded branch_target jump_target zeros_of
-a_branch_too_far = refl
+unfolding assembled base_of read_line read_statement item_of operands_fault size_at fault_at first_pass second_pass coded_at loading branch_to jump_to tokens_of cut_from start_of register_of register_names cp0_register_of cp0_names statement_named row_named row_at rows number_of bytes_of_text encoded branch_target jump_target zeros_of
+a_branch_too_far = rw (distance_is 0x80010000 0x80030004) refl
 
 a_branch_back_that_just_reaches : assembled (codes "b 0x7fff0004") ≡ Image 0x80010000 0x80010000 (bytes_of_words (0x10008000 ∷ []))
-unfolding assembled base_of read_line read_statement item_of operands_fault size_at fault_at first_pass second_pass coded_at loading branch_to jump_to distance_to word_number tokens_of cut_from start_of register_of register_names cp0_register_of cp0_names statement_named row_named row_at rows number_of bytes_of_text encoded branch_target jump_target zeros_of
-a_branch_back_that_just_reaches = refl
+unfolding assembled base_of read_line read_statement item_of operands_fault size_at fault_at first_pass second_pass coded_at loading branch_to jump_to tokens_of cut_from start_of register_of register_names cp0_register_of cp0_names statement_named row_named row_at rows number_of bytes_of_text encoded branch_target jump_target zeros_of
+a_branch_back_that_just_reaches = rw (distance_is 0x80010000 0x7fff0004) refl
 
 a_branch_back_too_far : assembled (codes "b 0x7fff0000") ≡ Bad 1 why.Range
-unfolding assembled base_of read_line read_statement item_of operands_fault size_at fault_at first_pass second_pass coded_at loading branch_to jump_to distance_to word_number tokens_of cut_from start_of register_of register_names cp0_register_of cp0_names statement_named row_named row_at rows number_of bytes_of_text encoded branch_target jump_target zeros_of
-a_branch_back_too_far = refl
+unfolding assembled base_of read_line read_statement item_of operands_fault size_at fault_at first_pass second_pass coded_at loading branch_to jump_to tokens_of cut_from start_of register_of register_names cp0_register_of cp0_names statement_named row_named row_at rows number_of bytes_of_text encoded branch_target jump_target zeros_of
+a_branch_back_too_far = rw (distance_is 0x80010000 0x7fff0000) refl
 
 a_branch_between_words : assembled (codes "b 0x80010002") ≡ Bad 1 why.Range
-unfolding assembled base_of read_line read_statement item_of operands_fault size_at fault_at first_pass second_pass coded_at loading branch_to jump_to distance_to word_number tokens_of cut_from start_of register_of register_names cp0_register_of cp0_names statement_named row_named row_at rows number_of bytes_of_text encoded branch_target jump_target zeros_of
-a_branch_between_words = refl
+unfolding assembled base_of read_line read_statement item_of operands_fault size_at fault_at first_pass second_pass coded_at loading branch_to jump_to tokens_of cut_from start_of register_of register_names cp0_register_of cp0_names statement_named row_named row_at rows number_of bytes_of_text encoded branch_target jump_target zeros_of
+a_branch_between_words = rw (distance_is 0x80010000 0x80010002) refl
 
 a_jump_that_just_reaches : assembled (codes "j 0x8ffffffc") ≡ Image 0x80010000 0x80010000 (bytes_of_words (0x0bffffff ∷ []))
-unfolding assembled base_of read_line read_statement item_of operands_fault size_at fault_at first_pass second_pass coded_at loading branch_to jump_to distance_to word_number tokens_of cut_from start_of register_of register_names cp0_register_of cp0_names statement_named row_named row_at rows number_of bytes_of_text encoded branch_target jump_target zeros_of
-a_jump_that_just_reaches = refl
+unfolding assembled base_of read_line read_statement item_of operands_fault size_at fault_at first_pass second_pass coded_at loading branch_to jump_to tokens_of cut_from start_of register_of register_names cp0_register_of cp0_names statement_named row_named row_at rows number_of bytes_of_text encoded branch_target jump_target zeros_of
+a_jump_that_just_reaches = rw (number_is 0x80010000 0x8ffffffc) refl
 
 a_jump_too_far : assembled (codes "j 0x90000000") ≡ Bad 1 why.Range
-unfolding assembled base_of read_line read_statement item_of operands_fault size_at fault_at first_pass second_pass coded_at loading branch_to jump_to distance_to word_number tokens_of cut_from start_of register_of register_names cp0_register_of cp0_names statement_named row_named row_at rows number_of bytes_of_text encoded branch_target jump_target zeros_of
-a_jump_too_far = refl
+unfolding assembled base_of read_line read_statement item_of operands_fault size_at fault_at first_pass second_pass coded_at loading branch_to jump_to tokens_of cut_from start_of register_of register_names cp0_register_of cp0_names statement_named row_named row_at rows number_of bytes_of_text encoded branch_target jump_target zeros_of
+a_jump_too_far = rw (number_is 0x80010000 0x90000000) refl
 
 a_jump_between_words : assembled (codes "j 0x80010002") ≡ Bad 1 why.Range
-unfolding assembled base_of read_line read_statement item_of operands_fault size_at fault_at first_pass second_pass coded_at loading branch_to jump_to distance_to word_number tokens_of cut_from start_of register_of register_names cp0_register_of cp0_names statement_named row_named row_at rows number_of bytes_of_text encoded branch_target jump_target zeros_of
-a_jump_between_words = refl
+unfolding assembled base_of read_line read_statement item_of operands_fault size_at fault_at first_pass second_pass coded_at loading branch_to jump_to tokens_of cut_from start_of register_of register_names cp0_register_of cp0_names statement_named row_named row_at rows number_of bytes_of_text encoded branch_target jump_target zeros_of
+a_jump_between_words = rw (number_is 0x80010000 0x80010002) refl
 
 a_long_label : assembled (codes "aaaaaaaaaaaaaaaaaaaaaaaaaaaaaaaaaaaaaaaaaaaaaaaaaaaaaaaaaaaaaaaa: nop") ≡ Image 0x80010000 0x80010000 (bytes_of_words (0 ∷ []))
 unfolding assembled base_of read_line read_statement item_of operands_fault size_at fault_at first_pass second_pass coded_at loading branch_to jump_to distance_to word_number tokens_of cut_from start_of register_of register_names cp0_register_of cp0_names statement_named row_named row_at rows number_of bytes_of_text encoded branch_target jump_target zeros_of

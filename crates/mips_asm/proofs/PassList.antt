@@ -1,19 +1,18 @@
 -- The base and the two passes, a line at a time; and a statement has as many bytes as its size says.
-use Rattle.std.proofs.Common.{◌≡◌, ◌+◌, ◌-◌, ◌*◌, ◌==◌, ℕ, Bool, true, false, List, [], ◌∷◌, ◌++◌, Option, Some, None, length, cond, refl, ap, sym, ◌∙◌, arith, append_assoc, length-append, append-nil, subst, Ok, Err}
+use Rattle.std.proofs.Common.{◌≡◌, ◌+◌, ◌-◌, ◌*◌, ◌%◌, ◌^◌, ℕ, Bool, true, false, List, [], ◌∷◌, ◌++◌, Option, Some, None, length, cond, refl, ap, sym, ◌∙◌, arith, append_assoc, length-append, append-nil, subst, Ok, Err}
 use Rattle.std.proofs.lemmas.List.{length-replicate}
 use Rattle.flat_ram.specs.Bytes.{bytes_of, zeros_of}
 use Rattle.mips3_code.specs.Coding.{encoded}
 use Rattle.mips3_table.specs.declared.instruction.Inst.{Inst}
 use Rattle.mips_text.specs.declared.reason.AsmWhy.{AsmWhy}
 use Rattle.mips_text.specs.declared.reason.AsmWhy.TheVariants as why
-use Rattle.mips_text.specs.Printed.{branch_target, jump_target}
 use Rattle.mips_text.specs.declared.item.Item.{Item}
 use Rattle.mips_text.specs.declared.item.Item.TheVariants.{Plain, BranchTo, JumpTo, LoadNumber, LoadLabel, Words, Bytes, Zeros, Origin, Aligned}
 use Rattle.mips_text.specs.declared.item.Line.{Line}
 use Rattle.mips_text.specs.Line.{Read, Refused, read_line}
 use Rattle.mips_text.specs.Coded.{padding_to, label_at}
 use Rattle.mips_asm.specs.Layout.{Place, base_by, base_of, usual_base, size_at, size_of, lines_of, place_after, fault_at}
-use Rattle.mips_text.specs.Coded.{Coded, Given, Lacking, address_of, where_known, branch_to, jump_to, distance_to, word_number, loading, bytes_of_words, coded_at, coded_of}
+use Rattle.mips_text.specs.Coded.{Coded, Given, Lacking, address_of, where_known, word_with, branch_to, jump_to, distance_to, word_number, loading, bytes_of_words, coded_at, coded_of}
 use Rattle.mips_asm.specs.Assembly.{Laid, Stopped, pass_on, pass_line, first_pass, SecondPass, Filled, Missing, with_bytes, fill_line, item_read, second_pass}
 use Rattle.mips_asm.specs.declared.coding.Stop.TheVariants.{Lacks}
 use Rattle.mips_asm.specs.PassesOf.{IsLaid, place_at}
@@ -85,17 +84,17 @@ where_known_length : (found : Option ℕ) (coded : ℕ → Coded) (size : ℕ) �
 where_known_length (Some address) coded size each = each address
 where_known_length None coded size each = tt
 
-chosen_length : (b : Bool) (bytes : List ℕ) (reason : AsmWhy) → length bytes ≡ 4 → HasLength (cond b (Given bytes) (Lacking reason)) 4
-chosen_length true bytes reason is = is
-chosen_length false bytes reason is = tt
+word_length : (inst : Inst) (number : Option ℕ) → HasLength (word_with inst number) 4
+word_length inst (Some number) = refl
+word_length inst None = tt
 
 branch_length : (inst : Inst) (at target : ℕ) → HasLength (branch_to inst at target) 4
 unfolding branch_to
-branch_length inst at target = chosen_length (branch_target at (distance_to at target) == target) (bytes_of (encoded (record inst { imm = distance_to at target }))) why.Range refl
+branch_length inst at target = word_length inst (distance_to at target)
 
 jump_length : (inst : Inst) (at target : ℕ) → HasLength (jump_to inst at target) 4
 unfolding jump_to
-jump_length inst at target = chosen_length (jump_target at (word_number target) == target) (bytes_of (encoded (record inst { imm = word_number target }))) why.Range refl
+jump_length inst at target = word_length inst (word_number at target)
 
 loading_length : (register number : ℕ) → length (loading register number) ≡ 8
 unfolding loading
@@ -113,8 +112,8 @@ words_length (word ∷ words) = let hyp : length (bytes_of_words words) ≡ 4 * 
 item_length : (labels : List (List ℕ × ℕ)) (address : ℕ) (item : Item) → HasLength (coded_at labels address item) (size_at address item)
 unfolding coded_at size_at
 item_length labels address (Plain inst) = refl
-item_length labels address (BranchTo inst target) = where_known_length (address_of labels target) (branch_to inst address) 4 (branch_length inst address)
-item_length labels address (JumpTo inst target) = where_known_length (address_of labels target) (jump_to inst address) 4 (jump_length inst address)
+item_length labels address (BranchTo inst target) = where_known_length (address_of labels target) (branch_to inst (address % 2 ^ 32)) 4 (branch_length inst (address % 2 ^ 32))
+item_length labels address (JumpTo inst target) = where_known_length (address_of labels target) (jump_to inst (address % 2 ^ 32)) 4 (jump_length inst (address % 2 ^ 32))
 item_length labels address (LoadNumber register number) = loading_length register number
 item_length labels address (LoadLabel register name) = where_known_length (label_at labels name) (λ number. Given (loading register number)) 8 (loading_length register)
 item_length labels address (Words words) = words_length words

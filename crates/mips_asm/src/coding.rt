@@ -1,10 +1,9 @@
 //! The bytes of statements.
 
-ghost use Rattle.std.specs.Prelude.{◌≡◌, ℕ, List, ◌<◌, ◌+◌, ◌^◌, ◌++◌, [], OnOk, unwrap_or};
+ghost use Rattle.std.specs.Prelude.{◌≡◌, ℕ, List, ◌<◌, ◌+◌, ◌%◌, ◌^◌, ◌++◌, [], OnOk, unwrap_or};
 ghost use Rattle.flat_ram.specs.Bytes.{bytes_of, zeros_of};
 ghost use Rattle.mips3_table.specs.Instructions.{IsInst};
 ghost use Rattle.mips_text.specs.Coded as law;
-ghost use Rattle.mips_text.specs.Printed as printed;
 ghost use Rattle.mips_text.specs.Coded.{label_at};
 ghost use Rattle.mips_asm.specs.Shown.{IsAppended, IsCoded, IsSound, NeedsNoLabel, word_shown};
 
@@ -12,7 +11,7 @@ use crate::labels::Labels;
 use crate::layout::padding;
 use crate::operands::bare;
 use mips_text::{AsmWhy, Item, Target};
-use mips3_code::encode;
+use mips3_code::{branch_distance, encode, jump_number};
 use mips3_table::Inst;
 use std::alloc::AllocError;
 
@@ -57,79 +56,25 @@ fn put_zeros(count: usize, bytes: &mut Vec<u8>) -> Result<(), AllocError>
     Ok(())
 }
 
-/// The number of 16 bits by which a branch at an address goes to a target, if it can.
-#[tactic(auto, unfolding(mips_text::specs::Coded::distance_to))]
-fn distance_to(at: u64, target: u32) -> u32
-    requires { at < 2 ^ 63 + 2 ^ 33 }
-    ensures value { result ≡ law.distance_to at target }
-    ensures small { result < 2 ^ 16 }
-{
-    let slot = (at + 4) % 0x100000000;
-    let apart = (u64::from(target) + 0x100000000 - slot) % 0x100000000;
-    (apart / 4 % 0x10000) as u32
-}
-
-/// The number of 26 bits by which a jump goes to a target, if it can.
-#[tactic(auto, unfolding(mips_text::specs::Coded::word_number))]
-fn word_number(target: u32) -> u32
-    ensures value { result ≡ law.word_number target }
-    ensures small { result < 2 ^ 26 }
-{
-    target % 0x10000000 / 4
-}
-
-/// Where a branch at an address goes by its number.
-#[tactic(auto, unfolding(mips_text::specs::Printed::branch_target))]
-fn branch_target(at: u64, distance: u32) -> u32
-    requires far { at < 2 ^ 63 + 2 ^ 33 }
-    requires small { distance < 2 ^ 16 }
-    ensures { result ≡ printed.branch_target at distance }
-{
-    let words = if distance < 0x8000 {
-        u64::from(distance)
-    } else {
-        u64::from(distance) + 0xffff0000
-    };
-    ((at + 4 + 4 * words) % 0x100000000) as u32
-}
-
-/// Where a jump at an address goes by its number.
-#[tactic(auto, unfolding(mips_text::specs::Printed::jump_target))]
-fn jump_target(at: u64, number: u32) -> u32
-    requires far { at < 2 ^ 63 + 2 ^ 33 }
-    requires small { number < 2 ^ 26 }
-    ensures { result ≡ printed.jump_target at number }
-{
-    ((at + 4) % 0x100000000 / 0x10000000 * 0x10000000) as u32 + 4 * number
-}
-
 /// The word of a branch at an address to a target that it reaches.
-#[tactic(auto, unfolding(mips_text::specs::Coded::branch_to))]
-fn branch_to(inst: &Inst, at: u64, target: u32) -> Option<u32>
-    requires far { at < 2 ^ 63 + 2 ^ 33 }
-    requires sound { (number : ℕ) → number < 2 ^ 16 → IsInst (record inst.now { imm = number }) }
+fn branch_word(inst: &Inst, at: u32, target: u32) -> Option<u32>
+    requires { (number : ℕ) → number < 2 ^ 16 → IsInst (record inst.now { imm = number }) }
     ensures { word_shown result ≡ law.branch_to inst.now at target }
 {
-    let imm = distance_to(at, target);
-    if branch_target(at, imm) == target {
-        Some(encode(&Inst { imm, ..*inst }))
-    } else {
-        None
+    match branch_distance(at, target) {
+        Some(imm) => Some(encode(&Inst { imm, ..*inst })),
+        None => None,
     }
 }
 
 /// The word of a jump at an address to a target that it reaches.
-#[tactic(auto, unfolding(mips_text::specs::Coded::jump_to))]
-fn jump_to(inst: &Inst, at: u64, target: u32) -> Option<u32>
-    requires far { at < 2 ^ 63 + 2 ^ 33 }
-    requires sound { (number : ℕ) → number < 2 ^ 26 → IsInst (record inst.now { imm = number }) }
+fn jump_word(inst: &Inst, at: u32, target: u32) -> Option<u32>
+    requires { (number : ℕ) → number < 2 ^ 26 → IsInst (record inst.now { imm = number }) }
     ensures { word_shown result ≡ law.jump_to inst.now at target }
 {
-    let imm = word_number(target);
-    if jump_target(at, imm) == target {
-        Some(encode(&Inst { imm, ..*inst }))
-    } else {
-        None
+    match jump_number(at, target) {
+        Some(imm) => Some(encode(&Inst { imm, ..*inst })),
+        None => None,
     }
 }
 
@@ -177,19 +122,18 @@ fn address_of(labels: &Labels, target: &Target) -> Option<u32>
 /// Appends a branch.
 fn put_branch(
     labels: &Labels,
-    at: u64,
+    at: u32,
     inst: &Inst,
     target: &Target,
     bytes: &mut Vec<u8>,
 ) -> Result<(), Stop>
-    requires far { at < 2 ^ 63 + 2 ^ 33 }
-    requires sound { (number : ℕ) → number < 2 ^ 16 → IsInst (record inst.now { imm = number }) }
+    requires { (number : ℕ) → number < 2 ^ 16 → IsInst (record inst.now { imm = number }) }
     ensures { IsCoded (law.where_known (law.address_of labels.now target.now) (law.branch_to inst.now at)) result bytes.old.items bytes.new.items }
 {
     let Some(address) = address_of(labels, target) else {
         return Err(Stop::Lacks(AsmWhy::NoLabel));
     };
-    let Some(word) = branch_to(inst, at, address) else {
+    let Some(word) = branch_word(inst, at, address) else {
         return Err(Stop::Lacks(AsmWhy::Range));
     };
     put_word(word, bytes)?;
@@ -199,19 +143,18 @@ fn put_branch(
 /// Appends a jump.
 fn put_jump(
     labels: &Labels,
-    at: u64,
+    at: u32,
     inst: &Inst,
     target: &Target,
     bytes: &mut Vec<u8>,
 ) -> Result<(), Stop>
-    requires far { at < 2 ^ 63 + 2 ^ 33 }
-    requires sound { (number : ℕ) → number < 2 ^ 26 → IsInst (record inst.now { imm = number }) }
+    requires { (number : ℕ) → number < 2 ^ 26 → IsInst (record inst.now { imm = number }) }
     ensures { IsCoded (law.where_known (law.address_of labels.now target.now) (law.jump_to inst.now at)) result bytes.old.items bytes.new.items }
 {
     let Some(address) = address_of(labels, target) else {
         return Err(Stop::Lacks(AsmWhy::NoLabel));
     };
-    let Some(word) = jump_to(inst, at, address) else {
+    let Some(word) = jump_word(inst, at, address) else {
         return Err(Stop::Lacks(AsmWhy::Range));
     };
     put_word(word, bytes)?;
@@ -255,16 +198,22 @@ fn put_plain(at: u64, item: &Item, bytes: &mut Vec<u8>) -> Result<(), AllocError
     }
 }
 
+/// The address of 32 bits that an address past them is.
+fn low_word(at: u64) -> u32
+    ensures { result ≡ at % 2 ^ 32 }
+{
+    (at % 0x1_0000_0000) as u32
+}
+
 /// Appends the bytes of a statement at an address.
 #[tactic(auto, unfolding(mips_text::specs::Coded::coded_at))]
 pub fn put_item(labels: &Labels, at: u64, item: &Item, bytes: &mut Vec<u8>) -> Result<(), Stop>
-    requires far { at < 2 ^ 63 + 2 ^ 33 }
-    requires sound { IsSound item.now }
+    requires { IsSound item.now }
     ensures { IsCoded (law.coded_at labels.now at item.now) result bytes.old.items bytes.new.items }
 {
     match item {
-        Item::BranchTo(inst, target) => put_branch(labels, at, inst, target, bytes),
-        Item::JumpTo(inst, target) => put_jump(labels, at, inst, target, bytes),
+        Item::BranchTo(inst, target) => put_branch(labels, low_word(at), inst, target, bytes),
+        Item::JumpTo(inst, target) => put_jump(labels, low_word(at), inst, target, bytes),
         Item::LoadLabel(register, name) => put_label_loading(labels, *register, name.text(), bytes),
         _ => {
             put_plain(at, item, bytes)?;

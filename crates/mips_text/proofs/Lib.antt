@@ -12,5 +12,6 @@ pub mod Places
 pub mod OperandPlaces
 pub mod OperandValues
 pub mod FormOperands
+pub mod Reached
 pub mod ReadBack
 pub mod ReadReserved

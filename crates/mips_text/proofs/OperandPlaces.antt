@@ -1,6 +1,7 @@
 -- The places of the operands of an instruction: their texts are the printed ones, they chain, and what is expected at
 -- them is what the operands' form expects.
 use Rattle.std.proofs.Common.{◌≡◌, ◌<◌, ◌≤◌, ◌+◌, ◌*◌, ◌^◌, ℕ, true, List, [], ◌∷◌, ◌++◌, map, codes, length, slice_index, None, refl, ap, sym, ◌∙◌, subst, arith, append_assoc, append-nil}
+use Rattle.mips3_code.specs.Targets.{branch_target, jump_target}
 use Rattle.mips3_table.specs.declared.instruction.Inst.{Inst}
 use Rattle.mips_text.specs.declared.token.TokenKind.TheVariants.{Name, Number, Mark}
 use Rattle.mips_text.specs.Tokens.{tokens_of}
@@ -14,7 +15,7 @@ use Rattle.mips_text.specs.declared.operand.Operand.TheVariants.{Register, Cp0Re
 use Rattle.mips_text.specs.declared.operand.Expected.TheVariants.{ARegister, ACp0Register, ANumber, ATarget, AMark}
 use Rattle.mips_text.specs.declared.operand.Range.TheVariants.{Unsigned, WithSign}
 use Rattle.mips_text.specs.Forms.{expected_of, separated}
-use Rattle.mips_text.specs.Printed.{field_of, branch_target, jump_target, based_text, operand_text, with_commas, after_name, OperandFits, AllFit}
+use Rattle.mips_text.specs.Printed.{field_of, based_text, operand_text, with_commas, after_name, OperandFits, AllFit}
 use Rattle.mips_text.proofs.Pieces.{Piece, is_end, IsPiece, text_of_pieces, Chain, Spells, line_of_one, line_of_more, register_piece, cp0_piece, decimal_piece, hexadecimal_piece, signed_piece, mark_piece}
 use Rattle.mips_text.proofs.Places.{Place, place, pieces_at, expected_at, NoColon}
 

@@ -1,7 +1,10 @@
 -- What stands at the places of an operand agrees with what is expected there, and gives the operand's fields back.
 use Rattle.std.proofs.Common.{◌≡◌, ◌<◌, ◌+◌, ◌-◌, ◌%◌, ◌==◌, ◌^◌, ℕ, pos, neg_ℤ, negsuc, suc, Bool, true, false, ◌&&◌, List, [], ◌∷◌, Some, None, nat_lt, nat_le, unwrap_or, is_none, if◌then◌else◌, refl, ap, ◌∙◌, arith, lt-ltb, le-leb, ltb-true, ltb-false}
 use Rattle.std.proofs.lemmas.Grind.{common_steps}
+use Rattle.mips3_code.specs.Targets.{branch_target, jump_target}
+use Rattle.r4_words.specs.Words.{sext16}
 use Rattle.mips3_table.specs.declared.instruction.Inst.{Inst}
+use Rattle.mips3_code.proofs.Reach.{branch_target_below, jump_target_below}
 use Rattle.mips_text.specs.declared.token.TokenKind.TheVariants.{Name, Number}
 use Rattle.mips_text.specs.Names.{register_name, cp0_name}
 use Rattle.r4_words.specs.Texts.{dec_of}
@@ -13,7 +16,7 @@ use Rattle.mips_text.specs.declared.operand.Operand.TheVariants.{Register, Cp0Re
 use Rattle.mips_text.specs.declared.operand.Expected.TheVariants.{ACp0Register, ANumber}
 use Rattle.mips_text.specs.declared.operand.Range.TheVariants.{Unsigned, WithSign}
 use Rattle.mips_text.specs.Forms.{in_range}
-use Rattle.mips_text.specs.Printed.{field_of, sign_extended, branch_target, jump_target, OperandFits, AllFit}
+use Rattle.mips_text.specs.Printed.{field_of, OperandFits, AllFit}
 use Rattle.mips_text.specs.Line.{natural, number_value, in_bits, register_value, cp0_register_value, with_field}
 use Rattle.mips_text.proofs.ReadValues.{register_read, cp0_read, decimal_read, hexadecimal_read, signed_value, signed_read}
 use Rattle.mips_text.proofs.Places.{Place, place, Agrees, AllAgree, with_places}
@@ -62,14 +65,6 @@ target_agrees target lt = record { known = refl; kind = refl; range = ap (in_ran
 pub target_back : (target : ℕ) → target < 2 ^ 32 → natural (number_value (hex_text target)) ≡ target
 target_back target lt = ap natural (value_back target (hex_text target) (hexadecimal_read target) lt)
 
-pub branch_target_below : (at distance : ℕ) → branch_target at distance < 2 ^ 32
-unfolding branch_target
-branch_target_below at distance = omega arith
-
-pub jump_target_below : (at number : ℕ) → number < 2 ^ 26 → jump_target at number < 2 ^ 32
-unfolding jump_target
-jump_target_below at number lt = omega arith
-
 -- a number in two's complement
 negated : (half : ℕ) → half < 2 ^ 16 → neg_ℤ (pos (2 ^ 16 - half)) ≡ negsuc (2 ^ 16 - 1 - half)
 negated half lt = let one_more : 2 ^ 16 - half ≡ suc (2 ^ 16 - 1 - half) = omega arith in ap (λ n. neg_ℤ (pos n)) one_more
@@ -104,7 +99,7 @@ bits_by half false lt is =
     ap (λ z. in_bits 32 (unwrap_or (bounded z) (pos 0))) (negated half lt)
     ∙ ap (λ z. in_bits 32 (unwrap_or z (pos 0))) (bounded_negative (2 ^ 16 - 1 - half) (omega arith)) ∙ same
 
-signed_back : (half : ℕ) → half < 2 ^ 16 → in_bits 32 (number_value (signed_text half)) ≡ sign_extended half
+signed_back : (half : ℕ) → half < 2 ^ 16 → in_bits 32 (number_value (signed_text half)) ≡ sext16 half
 signed_back half lt = ap (λ z. in_bits 32 (unwrap_or (bounded z) (pos 0))) (signed_read half lt) ∙ bits_by half (nat_lt half (2 ^ 15)) lt refl
 
 -- a mark
@@ -139,8 +134,8 @@ taken (Register field) inst to = with_field field (field_of field inst) to
 taken Cp0Register inst to = with_field Rd inst.rd to
 taken (Decimal field width) inst to = with_field field (field_of field inst) to
 taken (Hexadecimal field width) inst to = with_field field (field_of field inst) to
-taken Signed inst to = with_field Imm (sign_extended inst.imm) to
-taken Based inst to = with_field Rs inst.rs (with_field Imm (sign_extended inst.imm) to)
+taken Signed inst to = with_field Imm (sext16 inst.imm) to
+taken Based inst to = with_field Rs inst.rs (with_field Imm (sext16 inst.imm) to)
 taken BranchTarget inst to = to
 taken JumpTarget inst to = to
 
@@ -158,7 +153,7 @@ with_before inst at (Hexadecimal field width) more to fits =
 with_before inst at Signed more to fits = ap (λ n. with_places more (with_field Imm n to)) (signed_back inst.imm fits)
 with_before inst at Based more to fits =
     ap (λ n. with_places more (with_field Rs (register_value (register_name inst.rs)) (with_field Imm n to))) (signed_back inst.imm fits.0)
-    ∙ ap (λ r. with_places more (with_field Rs r (with_field Imm (sign_extended inst.imm) to))) (register_back inst.rs fits.1)
+    ∙ ap (λ r. with_places more (with_field Rs r (with_field Imm (sext16 inst.imm) to))) (register_back inst.rs fits.1)
 with_before inst at BranchTarget more to fits = refl
 with_before inst at JumpTarget more to fits = refl
 

@@ -7,6 +7,7 @@ use Rattle.mips3_table.specs.declared.instruction.Inst.{Inst}
 use Rattle.mips3_table.specs.declared.operand_forms.Form.{Form}
 use Rattle.mips3_table.specs.Rows.{row_at}
 use Rattle.mips3_code.specs.Coding.{decoded, encoded}
+use Rattle.mips3_code.specs.Targets.{branch_target, jump_target}
 use Rattle.mips_text.specs.Names.{register_name, cp0_name}
 use Rattle.mips_text.specs.Values.{hex_text, signed_text}
 use Rattle.mips_text.specs.declared.operand.Field.{Field}
@@ -22,18 +23,6 @@ field_of Rt inst = inst.rt
 field_of Rd inst = inst.rd
 field_of Sa inst = inst.sa
 field_of Imm inst = inst.imm
-
--- 16 bits in two's complement, extended to 32
-abbrev pub sign_extended : ℕ → ℕ
-sign_extended half = if nat_lt half (2 ^ 15) then half else half + (2 ^ 32 - 2 ^ 16)
-
--- where a branch at this address goes: so many words from its delay slot
-unfoldable pub branch_target : ℕ → ℕ → ℕ
-branch_target at distance = (at + 4 + 4 * sign_extended distance) % 2 ^ 32
-
--- where a jump at this address goes: the word of this number within the 256 MB of its delay slot
-unfoldable pub jump_target : ℕ → ℕ → ℕ
-jump_target at number = (at + 4) % 2 ^ 32 / 2 ^ 28 * 2 ^ 28 + 4 * number
 
 -- `off(base)`
 unfoldable pub based_text : ℕ → ℕ → List ℕ

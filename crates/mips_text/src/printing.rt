@@ -11,9 +11,9 @@ ghost use Rattle.mips_text.specs.ReadBack.{ReadsAs, word_kept};
 use crate::forms::operands_of;
 use crate::operand::{Field, Operand};
 use crate::writing::{
-    branch_to, jump_to, put_based, put_cp0_register, put_hexadecimal, put_register, put_signed,
+    put_based, put_cp0_register, put_hexadecimal, put_register, put_signed,
 };
-use mips3_code::{decode, encode};
+use mips3_code::{branch_target, decode, encode, jump_target};
 use mips3_table::{Inst, form_of, name_of};
 use r4_words::{Line, put_dec, put_text};
 
@@ -96,8 +96,8 @@ fn put_operand(operand: Operand, inst: &Inst, at: u32, out: &mut Line)
         Operand::Hexadecimal(field, _) => put_hexadecimal(field_of(field, inst), out),
         Operand::Signed => put_signed(inst.imm, out),
         Operand::Based => put_based(inst.imm, inst.rs, out),
-        Operand::BranchTarget => put_hexadecimal(branch_to(at, inst.imm), out),
-        Operand::JumpTarget => put_hexadecimal(jump_to(at, inst.imm), out),
+        Operand::BranchTarget => put_hexadecimal(branch_target(at, inst.imm), out),
+        Operand::JumpTarget => put_hexadecimal(jump_target(at, inst.imm), out),
     }
 }
 
