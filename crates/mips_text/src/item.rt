@@ -116,7 +116,7 @@ impl<'a> Model for Bytes<'a> {
 }
 
 impl<'a> Bytes<'a> {
-    ghost use Rattle.std.specs.Prelude.{◌≡◌, ◌++◌, ◌↔◌, length, unwrap_or, [], IsTrue, OnOk};
+    ghost use Rattle.std.specs.Prelude.{◌≡◌, ◌++◌, ◌↔◌, length, unwrap_or, [], IsTrue, OnErr, OnOk};
     ghost use Rattle.mips_text.specs.Values.{bytes_of_text};
 
     /// These bytes.
@@ -150,9 +150,10 @@ impl<'a> Bytes<'a> {
         self.len() == 0
     }
 
-    /// Appends them.
+    /// Appends them. Where memory is wanting, the bytes stay as they were.
     pub fn push_to(&self, out: &mut Vec<u8>) -> Result<(), Memory>
         ensures ok { OnOk result (out.new.items ≡ out.old.items ++ self.now) }
+        ensures err { OnErr result (out.new.items ≡ out.old.items) }
     {
         match &self.source {
             Source::Numbers(list) => out.extend_from_slice(list),
