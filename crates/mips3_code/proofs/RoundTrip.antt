@@ -8,7 +8,8 @@ use Rattle.std.proofs.lemmas.Nat.{pow_pos}
 use Rattle.std.proofs.lemmas.Nat.Bits.{and_high}
 use Rattle.std.proofs.Math.Nat.{mod-lt}
 use Rattle.mips3_table.specs.declared.instruction.Inst.{Inst}
-use Rattle.mips3_table.specs.Operands.{Widths, widths_of, bits_of, ones, rs_at, rt_at, rd_at, sa_at}
+use Rattle.mips3_table.specs.declared.operand_forms.Widths.{Widths}
+use Rattle.mips3_table.specs.Operands.{widths_of, bits_of, ones, rs_at, rt_at, rd_at, sa_at}
 use Rattle.mips3_table.specs.Rows.{Row, rows, row_at, no_row}
 use Rattle.mips3_table.specs.Matching.{row_of}
 use Rattle.mips3_table.specs.Instructions.{widths_at, FitsWidths, IsInst}

@@ -2,7 +2,8 @@
 -- Source: MIPS R4000 Microprocessor User's Manual, 2nd edition (Heinrich), appendix A, "Instruction Formats".
 use Rattle.std.specs.Prelude.{◌≡◌, ◌+◌, ◌-◌, ◌*◌, ◌^◌, ℕ, Option, Some, None, bit_and}
 use Rattle.mips3_table.specs.declared.instruction.Inst.{Inst}
-use Rattle.mips3_table.specs.Operands.{Widths, widths_of, bits_of, operand_bits, rs_at, rt_at, rd_at, sa_at}
+use Rattle.mips3_table.specs.declared.operand_forms.Widths.{Widths}
+use Rattle.mips3_table.specs.Operands.{widths_of, bits_of, operand_bits, rs_at, rt_at, rd_at, sa_at}
 use Rattle.mips3_table.specs.Rows.{Row, row_at}
 use Rattle.mips3_table.specs.Matching.{row_of}
 use Rattle.mips3_table.specs.Instructions.{widths_at}

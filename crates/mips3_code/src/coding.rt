@@ -12,7 +12,7 @@ use mips3_table::{
 };
 
 macro_rules! instruction_of_match {
-    (($word:expr), $mask:literal, $($number:literal $name:literal $match:literal $width:literal $form:ident,)*) => {
+    (($word:expr), $mask:literal, $($number:literal $name:literal $match:literal $width:literal $form:ident $operation:expr,)*) => {
         match $word & $mask {
             $($match => Some(fields_in(Form::$form, $number, $word)),)*
             _ => None,
@@ -21,7 +21,7 @@ macro_rules! instruction_of_match {
 }
 
 macro_rules! word_of_row {
-    (($inst:expr), $mask:literal, $($number:literal $name:literal $match:literal $width:literal $form:ident,)*) => {
+    (($inst:expr), $mask:literal, $($number:literal $name:literal $match:literal $width:literal $form:ident $operation:expr,)*) => {
         match $inst.row {
             $($number => $match + fields_of(Form::$form, $inst),)*
             _ => unreachable!(),

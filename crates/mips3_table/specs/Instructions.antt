@@ -2,7 +2,8 @@
 -- Source: MIPS R4000 Microprocessor User's Manual, 2nd edition (Heinrich), appendix A, "Instruction Formats".
 use Rattle.std.specs.Prelude.{◌<◌, ◌^◌, ℕ}
 use Rattle.mips3_table.specs.declared.instruction.Inst.{Inst}
-use Rattle.mips3_table.specs.Operands.{Widths, widths_of}
+use Rattle.mips3_table.specs.declared.operand_forms.Widths.{Widths}
+use Rattle.mips3_table.specs.Operands.{widths_of}
 use Rattle.mips3_table.specs.Rows.{row_at}
 
 -- the widths of the fields of a row's form

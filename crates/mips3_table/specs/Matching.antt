@@ -1,9 +1,10 @@
 -- Which row a word has.
 -- Source: MIPS R4000 Microprocessor User's Manual, 2nd edition (Heinrich), appendix A, figure A-2; a word that no row
 -- matches is reserved.
-use Rattle.std.specs.Prelude.{◌≡◌, ◌==◌, ◌<◌, ◌+◌, ℕ, Bool, List, [], ◌∷◌, Option, Some, None, bit_and, if◌then◌else◌}
+use Rattle.std.specs.Prelude.{◌≡◌, ◌==◌, ◌<◌, ◌+◌, ℕ, Bool, List, [], ◌∷◌, Option, Some, None, bit_and, bytes_eq, position, if◌then◌else◌}
 use Rattle.mips3_table.specs.declared.classes.Class.{Class}
 use Rattle.mips3_table.specs.declared.classes.Class.TheVariants.{Opcode, Special, Regimm, Cop0Move, Cop0Function}
+use Rattle.mips3_table.specs.declared.table.RowRecord.{RowRecord}
 use Rattle.mips3_table.specs.Operands.{bits_of}
 use Rattle.mips3_table.specs.Rows.{Row, rows, row_at, opcode_rows, special_rows, regimm_rows, cop0_move_rows, cop0_function_rows}
 
@@ -48,6 +49,17 @@ match_in Cop0Function word = match_from word 124 cop0_function_rows
 -- at most one row matches a word
 abbrev pub AtMostOneRow : Type 0
 AtMostOneRow = (word one other : ℕ) → IsRowOf word one → IsRowOf word other → one ≡ other
+
+-- a record has what the table says of a row
+pub record Describes (row : Row) (shown : RowRecord) : Type 0 where
+  pub name : shown.name.now ≡ row.name
+  pub form : shown.form ≡ row.form
+  pub operation : shown.operation ≡ row.operation
+  pub is_64_bit : shown.is_64_bit ≡ row.is_64_bit
+
+-- the row of a name: the first that has it
+unfoldable pub row_named : List ℕ → Option ℕ
+row_named name = position (λ row. bytes_eq name row.name) rows
 
 -- the row of this number is in the table, and has this name
 pub record IsNamed (name : List ℕ) (number : ℕ) : Type 0 where

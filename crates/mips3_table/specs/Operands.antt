@@ -1,19 +1,11 @@
 -- The fields of an instruction word, and which of them a form of operands uses.
 -- Source: MIPS R4000 Microprocessor User's Manual, 2nd edition (Heinrich), appendix A, "Instruction Formats".
-use Rattle.std.specs.Prelude.{ℕ, ◌+◌, ◌-◌, ◌/◌, ◌%◌, ◌^◌}
+use Rattle.std.specs.Prelude.{ℕ, ◌≤◌, ◌+◌, ◌-◌, ◌/◌, ◌%◌, ◌^◌}
+use Rattle.mips3_table.specs.declared.operand_forms.Widths.{Widths}
 use Rattle.mips3_table.specs.declared.operand_forms.Form.{Form}
 use Rattle.mips3_table.specs.declared.operand_forms.Form.TheVariants.{Target, CompareBranch, ZeroBranch, SignedImmediate, UnsignedImmediate, UpperImmediate, Memory, CacheOperation, CoprocessorNumber, CoprocessorMemory, Shift, ShiftByRegister, Source, JumpAndLinkRegister, Code, NoOperands, Destination, TwoSources, ThreeRegisters, TrapRegisters, TrapImmediate, Cp0Move}
 
--- The width in bits of each field of a form, 0 where the form does not use it. The four fields of 5 bits have their
--- places below; the form's number has its lowest bit at number_at.
-pub record Widths : Type 0 where
-  pub rs : ℕ
-  pub rt : ℕ
-  pub rd : ℕ
-  pub sa : ℕ
-  pub number : ℕ
-  pub number_at : ℕ
-
+-- the widths of a form's fields, and the lowest bit of its number
 abbrev pub widths : ℕ → ℕ → ℕ → ℕ → ℕ → ℕ → Widths
 widths rs rt rd sa number number_at = record { rs = rs; rt = rt; rd = rd; sa = sa; number = number; number_at = number_at }
 
@@ -54,6 +46,14 @@ widths_of ThreeRegisters = widths 5 5 5 0 0 0
 widths_of TrapRegisters = widths 5 5 0 0 10 6
 widths_of TrapImmediate = widths 5 0 0 0 16 0
 widths_of Cp0Move = widths 0 5 5 0 0 0
+
+-- a field has at most 5 bits, and the number lies in the low 26 of a word
+pub record AreSmall (w : Widths) : Type 0 where
+  pub rs : w.rs ≤ 5
+  pub rt : w.rt ≤ 5
+  pub rd : w.rd ≤ 5
+  pub sa : w.sa ≤ 5
+  pub number : w.number_at + w.number ≤ 26
 
 -- what stands in the bits of a word from low up, so many of them: 0 where there are none
 abbrev pub bits_of : ℕ → ℕ → ℕ → ℕ

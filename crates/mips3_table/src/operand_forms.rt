@@ -1,5 +1,8 @@
 //! The forms of operands: which fields of a word are operands, and how a text shows them.
 
+ghost use Rattle.std.specs.Prelude.{◌≡◌, ◌≤◌, ◌<◌, ◌+◌};
+ghost use Rattle.mips3_table.specs.Operands as law;
+
 /// The form of a row's operands. Each says its text, as an assembler writes it, and the fields that hold it.
 /// A register stands in the 5 bits of its place: rs 25:21, rt 20:16, rd 15:11.
 #[derive(Clone, Copy, PartialEq, Eq, Debug)]
@@ -48,4 +51,99 @@ pub enum Form {
     TrapImmediate,
     /// `rt,cp0`: a register of coprocessor 0 in rd's place.
     Cp0Move,
+}
+
+/// The width in bits of each field of a form, 0 where the form does not use it. rs, rt, rd and sa have their places in
+/// every word; the form's number has its lowest bit at `number_at`.
+#[derive(Clone, Copy)]
+pub struct Widths {
+    pub rs: u8,
+    pub rt: u8,
+    pub rd: u8,
+    pub sa: u8,
+    pub number: u8,
+    pub number_at: u8,
+}
+
+/// The lowest bit of each field of 5 bits.
+pub const RS_AT: u8 = 21;
+
+pub const RT_AT: u8 = 16;
+
+pub const RD_AT: u8 = 11;
+
+pub const SA_AT: u8 = 6;
+
+// No fields, and a number of so many bits.
+fn number_alone(number: u8, number_at: u8) -> Widths
+    ensures { result ≡ law.widths 0 0 0 0 number number_at }
+{
+    Widths {
+        rs: 0,
+        rt: 0,
+        rd: 0,
+        sa: 0,
+        number,
+        number_at,
+    }
+}
+
+/// The widths of a form's fields.
+pub fn widths_of(form: Form) -> Widths
+    ensures value { result ≡ law.widths_of form }
+    ensures in_word { law.AreSmall result }
+{
+    let none = number_alone(0, 0);
+    let half = number_alone(16, 0);
+    match form {
+        Form::Target | Form::CoprocessorNumber => number_alone(26, 0),
+        Form::Code => number_alone(20, 6),
+        Form::NoOperands => none,
+        Form::CompareBranch
+        | Form::SignedImmediate
+        | Form::UnsignedImmediate
+        | Form::Memory
+        | Form::CacheOperation
+        | Form::CoprocessorMemory => Widths {
+            rs: 5,
+            rt: 5,
+            ..half
+        },
+        Form::ZeroBranch | Form::TrapImmediate => Widths { rs: 5, ..half },
+        Form::UpperImmediate => Widths { rt: 5, ..half },
+        Form::TrapRegisters => Widths {
+            rs: 5,
+            rt: 5,
+            ..number_alone(10, 6)
+        },
+        Form::Shift => Widths {
+            rt: 5,
+            rd: 5,
+            sa: 5,
+            ..none
+        },
+        Form::ShiftByRegister | Form::ThreeRegisters => Widths {
+            rs: 5,
+            rt: 5,
+            rd: 5,
+            ..none
+        },
+        Form::Source => Widths { rs: 5, ..none },
+        Form::JumpAndLinkRegister => Widths {
+            rs: 5,
+            rd: 5,
+            ..none
+        },
+        Form::Destination => Widths { rd: 5, ..none },
+        Form::TwoSources => Widths {
+            rs: 5,
+            rt: 5,
+            ..none
+        },
+        Form::Cp0Move => Widths {
+            rt: 5,
+            rd: 5,
+            ..none
+        },
+    }
 }

@@ -1,198 +1,49 @@
-//! The table in code: a list of rows for each class, and what is read from it.
-//!
-//! Each list is a macro that hands its rows to another macro, `consumer`: the arguments of the call in parentheses, the
-//! bits that the class reads, and each row as its number, its name, what stands in those bits, the width of its
-//! operation in bits, and the form of its operands. A crate above writes a consumer of its own, beside the function
-//! whose body it fills.
+//! What is read from the table: the row of a word and of a name, and what the table says of a row.
 
-ghost use Rattle.std.specs.Prelude.{◌≡◌, ◌<◌, ◌≤◌, ◌↔◌, ℕ, IsNone, IfSome, length};
+ghost use Rattle.std.specs.Prelude.{◌≡◌, ◌<◌, ◌≤◌, ◌↔◌, ℕ, IsNone, IfSome, length, bytes_eq};
 ghost use Rattle.mips3_table.specs.Rows.{rows, row_at};
-ghost use Rattle.mips3_table.specs.Matching.{AtMostOneRow, IsNamed, IsRowOf, NamesDiffer, match_in, row_of as row_of_word};
+ghost use Rattle.mips3_table.specs.Matching as law;
+ghost use Rattle.mips3_table.specs.Matching.{AtMostOneRow, Describes, IsNamed, IsRowOf, NamesDiffer, match_in, row_of as row_of_word};
 
 use crate::classes::{Class, class_of};
 use crate::operand_forms::Form;
+use crate::operations::Amount::{InField, InFieldPlus32, InRegister};
+use crate::operations::Comparison::{
+    Equal, Greater, GreaterOrEqual, GreaterOrEqualUnsigned, Less, LessOrEqual, LessUnsigned,
+    NotEqual,
+};
+use crate::operations::Coprocessor::{One, Two};
+use crate::operations::DelaySlot::{AlwaysExecuted, NullifiedUnlessTaken};
+use crate::operations::Link::{IntoDestination, IntoRegister31, Unlinked};
+use crate::operations::Operation;
+use crate::operations::Operation::{
+    Add, And, Branch, Breakpoint, Divide, ExclusiveOr, Jump, Load, LoadLeft, LoadLinked, LoadRight,
+    LoadUpper, MoveFromCp0, MoveFromHi, MoveFromLo, MoveToCp0, MoveToHi, MoveToLo, Multiply, NotOr,
+    OperateCache, Or, ProbeTlb, ReadTlb, ReturnFromException, SetWhere, ShiftLeft,
+    ShiftRightArithmetic, ShiftRightLogical, Store, StoreConditional, StoreLeft, StoreRight,
+    Subtract, Synchronize, SystemCall, TrapWhere, UseCoprocessor, WriteIndexedTlb, WriteRandomTlb,
+};
+use crate::operations::Overflow::{Traps, Wraps};
+use crate::operations::Signedness::{Signed, Unsigned};
+use crate::operations::Size::{Byte, Half, Wide};
+use crate::operations::Width::{Double, Word};
+use crate::{cop0_function_rows, cop0_move_rows, opcode_rows, regimm_rows, special_rows};
 
-/// The rows told by the opcode.
-#[macro_export]
-macro_rules! opcode_rows {
-    ($consumer:ident, $($argument:expr),*) => {
-        $consumer! {
-            ($($argument),*), 0xfc000000,
-            0   "j"       0x08000000 32 Target,
-            1   "jal"     0x0c000000 32 Target,
-            2   "beq"     0x10000000 32 CompareBranch,
-            3   "bne"     0x14000000 32 CompareBranch,
-            4   "beql"    0x50000000 32 CompareBranch,
-            5   "bnel"    0x54000000 32 CompareBranch,
-            6   "blez"    0x18000000 32 ZeroBranch,
-            7   "bgtz"    0x1c000000 32 ZeroBranch,
-            8   "blezl"   0x58000000 32 ZeroBranch,
-            9   "bgtzl"   0x5c000000 32 ZeroBranch,
-            10  "addi"    0x20000000 32 SignedImmediate,
-            11  "addiu"   0x24000000 32 SignedImmediate,
-            12  "slti"    0x28000000 32 SignedImmediate,
-            13  "sltiu"   0x2c000000 32 SignedImmediate,
-            14  "daddi"   0x60000000 64 SignedImmediate,
-            15  "daddiu"  0x64000000 64 SignedImmediate,
-            16  "andi"    0x30000000 32 UnsignedImmediate,
-            17  "ori"     0x34000000 32 UnsignedImmediate,
-            18  "xori"    0x38000000 32 UnsignedImmediate,
-            19  "lui"     0x3c000000 32 UpperImmediate,
-            20  "ldl"     0x68000000 64 Memory,
-            21  "ldr"     0x6c000000 64 Memory,
-            22  "lb"      0x80000000 32 Memory,
-            23  "lh"      0x84000000 32 Memory,
-            24  "lwl"     0x88000000 32 Memory,
-            25  "lw"      0x8c000000 32 Memory,
-            26  "lbu"     0x90000000 32 Memory,
-            27  "lhu"     0x94000000 32 Memory,
-            28  "lwr"     0x98000000 32 Memory,
-            29  "lwu"     0x9c000000 64 Memory,
-            30  "ll"      0xc0000000 32 Memory,
-            31  "lld"     0xd0000000 64 Memory,
-            32  "ld"      0xdc000000 64 Memory,
-            33  "sb"      0xa0000000 32 Memory,
-            34  "sh"      0xa4000000 32 Memory,
-            35  "swl"     0xa8000000 32 Memory,
-            36  "sw"      0xac000000 32 Memory,
-            37  "sdl"     0xb0000000 64 Memory,
-            38  "sdr"     0xb4000000 64 Memory,
-            39  "swr"     0xb8000000 32 Memory,
-            40  "sc"      0xe0000000 32 Memory,
-            41  "scd"     0xf0000000 64 Memory,
-            42  "sd"      0xfc000000 64 Memory,
-            43  "cache"   0xbc000000 32 CacheOperation,
-            44  "cop1"    0x44000000 32 CoprocessorNumber,
-            45  "cop2"    0x48000000 32 CoprocessorNumber,
-            46  "lwc1"    0xc4000000 32 CoprocessorMemory,
-            47  "lwc2"    0xc8000000 32 CoprocessorMemory,
-            48  "ldc1"    0xd4000000 32 CoprocessorMemory,
-            49  "ldc2"    0xd8000000 32 CoprocessorMemory,
-            50  "swc1"    0xe4000000 32 CoprocessorMemory,
-            51  "swc2"    0xe8000000 32 CoprocessorMemory,
-            52  "sdc1"    0xf4000000 32 CoprocessorMemory,
-            53  "sdc2"    0xf8000000 32 CoprocessorMemory,
-        }
-    };
-}
-
-/// The rows of SPECIAL, opcode 0, told by the function.
-#[macro_export]
-macro_rules! special_rows {
-    ($consumer:ident, $($argument:expr),*) => {
-        $consumer! {
-            ($($argument),*), 0xfc00003f,
-            54  "sll"     0x00000000 32 Shift,
-            55  "srl"     0x00000002 32 Shift,
-            56  "sra"     0x00000003 32 Shift,
-            57  "dsll"    0x00000038 64 Shift,
-            58  "dsrl"    0x0000003a 64 Shift,
-            59  "dsra"    0x0000003b 64 Shift,
-            60  "dsll32"  0x0000003c 64 Shift,
-            61  "dsrl32"  0x0000003e 64 Shift,
-            62  "dsra32"  0x0000003f 64 Shift,
-            63  "sllv"    0x00000004 32 ShiftByRegister,
-            64  "srlv"    0x00000006 32 ShiftByRegister,
-            65  "srav"    0x00000007 32 ShiftByRegister,
-            66  "dsllv"   0x00000014 64 ShiftByRegister,
-            67  "dsrlv"   0x00000016 64 ShiftByRegister,
-            68  "dsrav"   0x00000017 64 ShiftByRegister,
-            69  "jr"      0x00000008 32 Source,
-            70  "jalr"    0x00000009 32 JumpAndLinkRegister,
-            71  "syscall" 0x0000000c 32 Code,
-            72  "break"   0x0000000d 32 Code,
-            73  "sync"    0x0000000f 32 NoOperands,
-            74  "mfhi"    0x00000010 32 Destination,
-            75  "mflo"    0x00000012 32 Destination,
-            76  "mthi"    0x00000011 32 Source,
-            77  "mtlo"    0x00000013 32 Source,
-            78  "mult"    0x00000018 32 TwoSources,
-            79  "multu"   0x00000019 32 TwoSources,
-            80  "div"     0x0000001a 32 TwoSources,
-            81  "divu"    0x0000001b 32 TwoSources,
-            82  "dmult"   0x0000001c 64 TwoSources,
-            83  "dmultu"  0x0000001d 64 TwoSources,
-            84  "ddiv"    0x0000001e 64 TwoSources,
-            85  "ddivu"   0x0000001f 64 TwoSources,
-            86  "add"     0x00000020 32 ThreeRegisters,
-            87  "addu"    0x00000021 32 ThreeRegisters,
-            88  "sub"     0x00000022 32 ThreeRegisters,
-            89  "subu"    0x00000023 32 ThreeRegisters,
-            90  "and"     0x00000024 32 ThreeRegisters,
-            91  "or"      0x00000025 32 ThreeRegisters,
-            92  "xor"     0x00000026 32 ThreeRegisters,
-            93  "nor"     0x00000027 32 ThreeRegisters,
-            94  "slt"     0x0000002a 32 ThreeRegisters,
-            95  "sltu"    0x0000002b 32 ThreeRegisters,
-            96  "dadd"    0x0000002c 64 ThreeRegisters,
-            97  "daddu"   0x0000002d 64 ThreeRegisters,
-            98  "dsub"    0x0000002e 64 ThreeRegisters,
-            99  "dsubu"   0x0000002f 64 ThreeRegisters,
-            100 "tge"     0x00000030 32 TrapRegisters,
-            101 "tgeu"    0x00000031 32 TrapRegisters,
-            102 "tlt"     0x00000032 32 TrapRegisters,
-            103 "tltu"    0x00000033 32 TrapRegisters,
-            104 "teq"     0x00000034 32 TrapRegisters,
-            105 "tne"     0x00000036 32 TrapRegisters,
-        }
-    };
-}
-
-/// The rows of REGIMM, opcode 1, told by the number in rt's place.
-#[macro_export]
-macro_rules! regimm_rows {
-    ($consumer:ident, $($argument:expr),*) => {
-        $consumer! {
-            ($($argument),*), 0xfc1f0000,
-            106 "bltz"    0x04000000 32 ZeroBranch,
-            107 "bgez"    0x04010000 32 ZeroBranch,
-            108 "bltzl"   0x04020000 32 ZeroBranch,
-            109 "bgezl"   0x04030000 32 ZeroBranch,
-            110 "bltzal"  0x04100000 32 ZeroBranch,
-            111 "bgezal"  0x04110000 32 ZeroBranch,
-            112 "bltzall" 0x04120000 32 ZeroBranch,
-            113 "bgezall" 0x04130000 32 ZeroBranch,
-            114 "tgei"    0x04080000 32 TrapImmediate,
-            115 "tgeiu"   0x04090000 32 TrapImmediate,
-            116 "tlti"    0x040a0000 32 TrapImmediate,
-            117 "tltiu"   0x040b0000 32 TrapImmediate,
-            118 "teqi"    0x040c0000 32 TrapImmediate,
-            119 "tnei"    0x040e0000 32 TrapImmediate,
-        }
-    };
-}
-
-/// The moves of COP0, opcode 16, told by the number in rs's place.
-#[macro_export]
-macro_rules! cop0_move_rows {
-    ($consumer:ident, $($argument:expr),*) => {
-        $consumer! {
-            ($($argument),*), 0xffe00000,
-            120 "mfc0"    0x40000000 32 Cp0Move,
-            121 "dmfc0"   0x40200000 64 Cp0Move,
-            122 "mtc0"    0x40800000 32 Cp0Move,
-            123 "dmtc0"   0x40a00000 64 Cp0Move,
-        }
-    };
-}
-
-/// The operations of COP0, opcode 16 with bit 25 set, told by the function.
-#[macro_export]
-macro_rules! cop0_function_rows {
-    ($consumer:ident, $($argument:expr),*) => {
-        $consumer! {
-            ($($argument),*), 0xfe00003f,
-            124 "tlbr"    0x42000001 32 NoOperands,
-            125 "tlbwi"   0x42000002 32 NoOperands,
-            126 "tlbwr"   0x42000006 32 NoOperands,
-            127 "tlbp"    0x42000008 32 NoOperands,
-            128 "eret"    0x42000018 32 NoOperands,
-        }
-    };
+/// What the table says of a row, but for the words that match it.
+#[derive(Clone, Copy)]
+pub struct RowRecord {
+    /// The name, as an assembler writes it.
+    pub name: &'static str,
+    /// The form of the operands.
+    pub form: Form,
+    /// What is done with them.
+    pub operation: Operation,
+    /// Whether it is one of the 64-bit rows.
+    pub is_64_bit: bool,
 }
 
 macro_rules! number_of_match {
-    (($word:expr), $mask:literal, $($number:literal $name:literal $match:literal $width:literal $form:ident,)*) => {
+    (($word:expr), $mask:literal, $($number:literal $name:literal $match:literal $width:literal $form:ident $operation:expr,)*) => {
         match $word & $mask {
             $($match => Some($number),)*
             _ => None,
@@ -200,28 +51,15 @@ macro_rules! number_of_match {
     };
 }
 
-macro_rules! name_of_row {
-    (($row:expr), $mask:literal, $($number:literal $name:literal $match:literal $width:literal $form:ident,)*) => {
+macro_rules! record_of_row {
+    (($row:expr), $mask:literal, $($number:literal $name:literal $match:literal $width:literal $form:ident $operation:expr,)*) => {
         match $row {
-            $($number => $name,)*
-            _ => unreachable!(),
-        }
-    };
-}
-
-macro_rules! form_of_row {
-    (($row:expr), $mask:literal, $($number:literal $name:literal $match:literal $width:literal $form:ident,)*) => {
-        match $row {
-            $($number => Form::$form,)*
-            _ => unreachable!(),
-        }
-    };
-}
-
-macro_rules! is_64_bit_row {
-    (($row:expr), $mask:literal, $($number:literal $name:literal $match:literal $width:literal $form:ident,)*) => {
-        match $row {
-            $($number => $width == 64,)*
+            $($number => RowRecord {
+                name: $name,
+                form: Form::$form,
+                operation: $operation,
+                is_64_bit: $width == 64,
+            },)*
             _ => unreachable!(),
         }
     };
@@ -298,75 +136,70 @@ fn cop0_function_row(word: u32) -> Option<u8>
     cop0_function_rows!(number_of_match, word)
 }
 
+/// What the table says of a row.
+pub fn record_of(row: u8) -> RowRecord
+    requires { row < 129 }
+    ensures { Describes (row_at row) result }
+{
+    match row {
+        0..=53 => opcode_record(row),
+        54..=105 => special_record(row),
+        106..=119 => regimm_record(row),
+        120..=123 => cop0_move_record(row),
+        _ => cop0_function_record(row),
+    }
+}
+
+#[tactic(auto, unfolding(crate::specs::Rows::row_at, crate::specs::Rows::rows))]
+fn opcode_record(row: u8) -> RowRecord
+    requires { row < 54 }
+    ensures { Describes (row_at row) result }
+{
+    opcode_rows!(record_of_row, row)
+}
+
+#[tactic(auto, unfolding(crate::specs::Rows::row_at, crate::specs::Rows::rows))]
+fn special_record(row: u8) -> RowRecord
+    requires from { 54 ≤ row }
+    requires to { row < 106 }
+    ensures { Describes (row_at row) result }
+{
+    special_rows!(record_of_row, row)
+}
+
+#[tactic(auto, unfolding(crate::specs::Rows::row_at, crate::specs::Rows::rows))]
+fn regimm_record(row: u8) -> RowRecord
+    requires from { 106 ≤ row }
+    requires to { row < 120 }
+    ensures { Describes (row_at row) result }
+{
+    regimm_rows!(record_of_row, row)
+}
+
+#[tactic(auto, unfolding(crate::specs::Rows::row_at, crate::specs::Rows::rows))]
+fn cop0_move_record(row: u8) -> RowRecord
+    requires from { 120 ≤ row }
+    requires to { row < 124 }
+    ensures { Describes (row_at row) result }
+{
+    cop0_move_rows!(record_of_row, row)
+}
+
+#[tactic(auto, unfolding(crate::specs::Rows::row_at, crate::specs::Rows::rows))]
+fn cop0_function_record(row: u8) -> RowRecord
+    requires from { 124 ≤ row }
+    requires to { row < 129 }
+    ensures { Describes (row_at row) result }
+{
+    cop0_function_rows!(record_of_row, row)
+}
+
 /// The name of a row, as an assembler writes it.
 pub fn name_of(row: u8) -> &'static str
     requires { row < 129 }
     ensures { result.now ≡ (row_at row).name }
 {
-    match row {
-        0..=53 => opcode_name(row),
-        54..=105 => special_name(row),
-        106..=119 => regimm_name(row),
-        120..=123 => cop0_move_name(row),
-        _ => cop0_function_name(row),
-    }
-}
-
-#[tactic(auto, unfolding(crate::specs::Rows::row_at, crate::specs::Rows::rows))]
-fn opcode_name(row: u8) -> &'static str
-    requires { row < 54 }
-    ensures { result.now ≡ (row_at row).name }
-{
-    opcode_rows!(name_of_row, row)
-}
-
-#[tactic(auto, unfolding(crate::specs::Rows::row_at, crate::specs::Rows::rows))]
-fn special_name(row: u8) -> &'static str
-    requires from { 54 ≤ row }
-    requires to { row < 106 }
-    ensures { result.now ≡ (row_at row).name }
-{
-    special_rows!(name_of_row, row)
-}
-
-#[tactic(auto, unfolding(crate::specs::Rows::row_at, crate::specs::Rows::rows))]
-fn regimm_name(row: u8) -> &'static str
-    requires from { 106 ≤ row }
-    requires to { row < 120 }
-    ensures { result.now ≡ (row_at row).name }
-{
-    regimm_rows!(name_of_row, row)
-}
-
-#[tactic(auto, unfolding(crate::specs::Rows::row_at, crate::specs::Rows::rows))]
-fn cop0_move_name(row: u8) -> &'static str
-    requires from { 120 ≤ row }
-    requires to { row < 124 }
-    ensures { result.now ≡ (row_at row).name }
-{
-    cop0_move_rows!(name_of_row, row)
-}
-
-#[tactic(auto, unfolding(crate::specs::Rows::row_at, crate::specs::Rows::rows))]
-fn cop0_function_name(row: u8) -> &'static str
-    requires from { 124 ≤ row }
-    requires to { row < 129 }
-    ensures { result.now ≡ (row_at row).name }
-{
-    cop0_function_rows!(name_of_row, row)
-}
-
-/// The number of the row that has this name.
-pub fn row_named(name: &str) -> Option<u8>
-    ensures row { (number : ℕ) → (result ≡ Some number) ↔ IsNamed name.now number }
-    ensures in_table { IfSome result (λ number. number < 129) }
-{
-    for row in 0..129 {
-        if name_of(row) == name {
-            return Some(row);
-        }
-    }
-    None
+    record_of(row).name
 }
 
 /// The form of a row's operands.
@@ -374,57 +207,15 @@ pub fn form_of(row: u8) -> Form
     requires { row < 129 }
     ensures { result ≡ (row_at row).form }
 {
-    match row {
-        0..=53 => opcode_form(row),
-        54..=105 => special_form(row),
-        106..=119 => regimm_form(row),
-        120..=123 => cop0_move_form(row),
-        _ => cop0_function_form(row),
-    }
+    record_of(row).form
 }
 
-#[tactic(auto, unfolding(crate::specs::Rows::row_at, crate::specs::Rows::rows))]
-fn opcode_form(row: u8) -> Form
-    requires { row < 54 }
-    ensures { result ≡ (row_at row).form }
+/// What a row does with its operands.
+pub fn operation_of(row: u8) -> Operation
+    requires { row < 129 }
+    ensures { result ≡ (row_at row).operation }
 {
-    opcode_rows!(form_of_row, row)
-}
-
-#[tactic(auto, unfolding(crate::specs::Rows::row_at, crate::specs::Rows::rows))]
-fn special_form(row: u8) -> Form
-    requires from { 54 ≤ row }
-    requires to { row < 106 }
-    ensures { result ≡ (row_at row).form }
-{
-    special_rows!(form_of_row, row)
-}
-
-#[tactic(auto, unfolding(crate::specs::Rows::row_at, crate::specs::Rows::rows))]
-fn regimm_form(row: u8) -> Form
-    requires from { 106 ≤ row }
-    requires to { row < 120 }
-    ensures { result ≡ (row_at row).form }
-{
-    regimm_rows!(form_of_row, row)
-}
-
-#[tactic(auto, unfolding(crate::specs::Rows::row_at, crate::specs::Rows::rows))]
-fn cop0_move_form(row: u8) -> Form
-    requires from { 120 ≤ row }
-    requires to { row < 124 }
-    ensures { result ≡ (row_at row).form }
-{
-    cop0_move_rows!(form_of_row, row)
-}
-
-#[tactic(auto, unfolding(crate::specs::Rows::row_at, crate::specs::Rows::rows))]
-fn cop0_function_form(row: u8) -> Form
-    requires from { 124 ≤ row }
-    requires to { row < 129 }
-    ensures { result ≡ (row_at row).form }
-{
-    cop0_function_rows!(form_of_row, row)
+    record_of(row).operation
 }
 
 /// Whether a row is one of the 64-bit rows.
@@ -432,57 +223,36 @@ pub fn is_64_bit(row: u8) -> bool
     requires { row < 129 }
     ensures { result ≡ (row_at row).is_64_bit }
 {
-    match row {
-        0..=53 => opcode_is_64_bit(row),
-        54..=105 => special_is_64_bit(row),
-        106..=119 => regimm_is_64_bit(row),
-        120..=123 => cop0_move_is_64_bit(row),
-        _ => cop0_function_is_64_bit(row),
+    record_of(row).is_64_bit
+}
+
+// Whether a text is this name.
+fn reads(text: &[u8], name: &str) -> bool
+    ensures { result ≡ bytes_eq text.now name.now }
+{
+    text == name.as_bytes()
+}
+
+/// The number of the row that has this name.
+pub fn row_named(name: &[u8]) -> Option<u8>
+    ensures value { result ≡ law.row_named name.now }
+    ensures row { (number : ℕ) → (result ≡ Some number) ↔ IsNamed name.now number }
+    ensures in_table { IfSome result (λ number. number < 129) }
+{
+    first_named(name)
+}
+
+fn first_named(name: &[u8]) -> Option<u8>
+    ensures { result ≡ law.row_named name.now }
+{
+    for row in 0..129 {
+        let of_row = name_of(row);
+        let is_it = reads(name, of_row);
+        if is_it {
+            return Some(row);
+        }
     }
-}
-
-#[tactic(auto, unfolding(crate::specs::Rows::row_at, crate::specs::Rows::rows))]
-fn opcode_is_64_bit(row: u8) -> bool
-    requires { row < 54 }
-    ensures { result ≡ (row_at row).is_64_bit }
-{
-    opcode_rows!(is_64_bit_row, row)
-}
-
-#[tactic(auto, unfolding(crate::specs::Rows::row_at, crate::specs::Rows::rows))]
-fn special_is_64_bit(row: u8) -> bool
-    requires from { 54 ≤ row }
-    requires to { row < 106 }
-    ensures { result ≡ (row_at row).is_64_bit }
-{
-    special_rows!(is_64_bit_row, row)
-}
-
-#[tactic(auto, unfolding(crate::specs::Rows::row_at, crate::specs::Rows::rows))]
-fn regimm_is_64_bit(row: u8) -> bool
-    requires from { 106 ≤ row }
-    requires to { row < 120 }
-    ensures { result ≡ (row_at row).is_64_bit }
-{
-    regimm_rows!(is_64_bit_row, row)
-}
-
-#[tactic(auto, unfolding(crate::specs::Rows::row_at, crate::specs::Rows::rows))]
-fn cop0_move_is_64_bit(row: u8) -> bool
-    requires from { 120 ≤ row }
-    requires to { row < 124 }
-    ensures { result ≡ (row_at row).is_64_bit }
-{
-    cop0_move_rows!(is_64_bit_row, row)
-}
-
-#[tactic(auto, unfolding(crate::specs::Rows::row_at, crate::specs::Rows::rows))]
-fn cop0_function_is_64_bit(row: u8) -> bool
-    requires from { 124 ≤ row }
-    requires to { row < 129 }
-    ensures { result ≡ (row_at row).is_64_bit }
-{
-    cop0_function_rows!(is_64_bit_row, row)
+    None
 }
 
 #[cfg(test)]

@@ -145,7 +145,11 @@ fn each_row_has_its_number_and_its_name(rt: HostRuntime) {
             Some(row) => {
                 assert_eq!(rt; row as usize, place, "the row of {word:08x}");
                 assert_eq!(rt; name_of(row), *name, "the name of row {row}");
-                assert_eq!(rt; row_named(name), Some(row), "the row named {name}");
+                assert_eq!(rt;
+                    row_named(name.as_bytes()),
+                    Some(row),
+                    "the row named {name}"
+                );
                 assert_eq!(rt; is_64_bit(row), *is_64_bit_row, "the width of row {row}");
             }
             None => assert!(rt; false, "{word:08x} is reserved"),
@@ -187,8 +191,8 @@ fn a_word_has_a_class_and_its_row_a_form(rt: HostRuntime) {
     assert_eq!(rt; class_of(0x040c0000), Class::Regimm);
     assert_eq!(rt; class_of(0x40800000), Class::Cop0Move);
     assert_eq!(rt; class_of(0x42000018), Class::Cop0Function);
-    assert!(rt; row_named("nop").is_none());
-    if let Some(row) = row_named("cache") {
+    assert!(rt; row_named(b"nop").is_none());
+    if let Some(row) = row_named(b"cache") {
         assert_eq!(rt; form_of(row), Form::CacheOperation);
     }
 }

@@ -1,9 +1,10 @@
--- The row that is found has the name, and no other row has it.
-use Rattle.std.proofs.Common.{◌≡◌, sym, ◌∙◌, rules}
-use Rattle.mips3_table.proofs.Names.{only_named}
+-- The row of a name has it, and no other row has it.
+use Rattle.std.proofs.Common.{◌∙◌, sym}
+use Rattle.mips3_table.proofs.Names.{named_row, row_of_name, named_in_table}
 use Rattle.mips3_table.proofs.table.row_named.Goals as goal
 
-pub returns-then-eq-clause-row : goal.returns-then-eq-clause-row
-returns-then-eq-clause-row c =
-    let same : c.name_of.result.now ≡ c.args.name.now = search rules in
-    λ number. only_named c.args.name.now c.loop-row.row number c.loop-row-test.true (sym c.name_of.ensures ∙ same)
+pub returns-clause-row : goal.returns-clause-row
+returns-clause-row c = λ number. (λ found. named_row _ _ (sym c.first_named.ensures ∙ found), λ named. c.first_named.ensures ∙ row_of_name _ _ named)
+
+pub returns-clause-in_table : goal.returns-clause-in_table
+returns-clause-in_table c = named_in_table _ _ c.first_named.ensures

@@ -1,7 +1,0 @@
--- No row that was passed has the name.
-use Rattle.std.proofs.Common.{◌≡◌, ℕ, ◌<◌}
-use Rattle.mips3_table.specs.Rows.{row_at}
-use Rattle.mips3_table.proofs.table.row_named.Given as goal
-
-abbrev pub invariant-loop-row : goal.invariant-loop-row
-invariant-loop-row l = (k : ℕ) → k < l.row → (row_at k).name ≡ l.name → ⊥
