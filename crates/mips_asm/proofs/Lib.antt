@@ -5,5 +5,9 @@ pub mod SlotList
 pub mod InstRows
 pub mod LineList
 pub mod RowNames
-pub mod PassList
+pub mod Bases
 pub mod Sizes
+pub mod Faults
+pub mod Laid
+pub mod Filled
+pub mod Outcomes

@@ -3,7 +3,6 @@
 ghost use Rattle.std.specs.Prelude.{◌≡◌, ◌+◌, ◌≤◌, IsNone, IfSome, false};
 ghost use Rattle.mips_asm.specs.Layout as law;
 ghost use Rattle.mips_text.specs.Coded as coded;
-ghost use Rattle.mips_asm.specs.PassesOf.{place_at};
 ghost use Rattle.mips_asm.specs.Shown.{IsSound, IsSoundLine, item_shown, label_shown, line_shown, statement_shown};
 
 use crate::items::{Item, Line};
@@ -146,13 +145,13 @@ fn breaks_alignment(address: u64, line: &Line) -> bool
     misplaced || entry && address % 4 != 0
 }
 
-/// The first reason for which a line can not stand at a place.
+/// The first reason for which a line can not stand at an address, after lines with these labels.
 #[tactic(auto, unfolding(crate::specs::Layout::fault_at))]
 pub fn fault_at(base: u32, address: u64, labels: &Labels, line: &Line) -> Option<AsmWhy>
     requires after { base ≤ address }
     requires near { address ≤ base + 8388608 }
     requires sound { IsSoundLine line.now }
-    ensures value { result ≡ law.fault_at base (place_at address labels.now) (line_shown line.now) }
+    ensures value { result ≡ law.fault_at base address labels.now (line_shown line.now) }
     ensures fits { IsNone result → address + law.size_of address (statement_shown line.now.item) ≤ base + 8388608 }
     ensures fresh { IsNone result → law.stands_twice labels.now (label_shown line.now.label) ≡ false }
 {
