@@ -4,7 +4,11 @@ use Rattle.mips3_table.specs.declared.instruction.Inst.{Inst}
 use Rattle.mips3_table.specs.Instructions.{IsInst}
 use Rattle.mips3_table.specs.Rows.{rows, row_at}
 use Rattle.mips_text.specs.declared.token.Token.{Token}
-use Rattle.mips_text.specs.Forms.{Field, Rs, Rt, Rd, Sa, Imm, Expected, ARegister, ACp0Register, ANumber, ATarget, ALabel, AText, AMark, token_text}
+use Rattle.mips_text.specs.declared.operand.Field.{Field}
+use Rattle.mips_text.specs.declared.operand.Field.TheVariants.{Rs, Rt, Rd, Sa, Imm}
+use Rattle.mips_text.specs.declared.operand.Expected.{Expected}
+use Rattle.mips_text.specs.declared.operand.Expected.TheVariants.{ARegister, ACp0Register, ANumber, ATarget, ALabel, AText, AMark}
+use Rattle.mips_text.specs.Forms.{token_text}
 use Rattle.mips_text.specs.Line.{with_field, with_operand, with_operands, bare, beq_row}
 
 field_row : (field : Field) (value : ℕ) (inst : Inst) → (with_field field value inst).row ≡ inst.row

@@ -5,7 +5,8 @@ use Rattle.std.proofs.Math.Seq.{take-append_seam}
 use Rattle.std.proofs.lemmas.List.Elements.{filter_map-append}
 use Rattle.std.proofs.lemmas.Option.{slice_get_past}
 use Rattle.mips_text.specs.declared.reason.AsmWhy.{AsmWhy}
-use Rattle.mips_text.specs.Line.{Line, Reading, Read}
+use Rattle.mips_text.specs.declared.item.Line.{Line}
+use Rattle.mips_text.specs.Line.{Reading, Read}
 use Rattle.mips_asm.specs.Layout.{Placed, placed_at, placed, size_of, size_read, label_read, labels_of, fault_at, fault_read, layout_fault}
 use Rattle.mips_asm.specs.Assembly.{HasNoFault, IsFirstFault}
 use Rattle.mips_asm.specs.PassesOf.{address_after}

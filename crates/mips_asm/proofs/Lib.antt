@@ -1,7 +1,7 @@
 mod Examples
 pub mod LabelList
 pub mod Bounds
-pub mod SlotList
+pub mod NumberList
 pub mod InstRows
 pub mod LineList
 pub mod RowNames

@@ -7,7 +7,9 @@ use Rattle.mips3_table.specs.declared.instruction.Inst.{Inst}
 use Rattle.mips_text.specs.declared.reason.AsmWhy.{AsmWhy}
 use Rattle.mips_text.specs.declared.reason.AsmWhy.TheVariants as why
 use Rattle.mips_text.specs.Printed.{branch_target, jump_target}
-use Rattle.mips_text.specs.Line.{Item, Plain, BranchTo, JumpTo, LoadNumber, LoadLabel, Words, Bytes, Zeros, Origin, Aligned, Reading, Read, Refused}
+use Rattle.mips_text.specs.declared.item.Item.{Item}
+use Rattle.mips_text.specs.declared.item.Item.TheVariants.{Plain, BranchTo, JumpTo, LoadNumber, LoadLabel, Words, Bytes, Zeros, Origin, Aligned}
+use Rattle.mips_text.specs.Line.{Reading, Read, Refused}
 use Rattle.mips_text.specs.Coded.{padding_to, label_at, Coded, Given, Lacking, address_of, where_known, branch_to, jump_to, distance_to, word_number, loading, bytes_of_words, coded_at, coded_of}
 use Rattle.mips_asm.specs.Layout.{size_at, size_of, size_read, placed_at}
 use Rattle.mips_asm.specs.Assembly.{coded_line}

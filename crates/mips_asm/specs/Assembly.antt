@@ -8,7 +8,8 @@
 use Rattle.std.specs.Prelude.{◌≡◌, ℕ, zero, suc, ◌+◌, ◌<◌, ◌⊎◌, List, [], length, slice_get, Option, Some, None, option_and_then, codes, unwrap_or}
 use Rattle.std.specs.List.{flat_map}
 use Rattle.mips_text.specs.declared.reason.AsmWhy.{AsmWhy}
-use Rattle.mips_text.specs.Line.{Item, Reading, Read, Refused}
+use Rattle.mips_text.specs.declared.item.Item.{Item}
+use Rattle.mips_text.specs.Line.{Reading, Read, Refused}
 use Rattle.mips_text.specs.Coded.{Coded, Given, Lacking, coded_of, label_at}
 use Rattle.mips_asm.specs.Layout.{Placed, placed_all, readings_of, base_of, labels_of, layout_fault}
 

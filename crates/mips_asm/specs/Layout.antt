@@ -3,11 +3,16 @@
 -- Source: the assembler language of this project. An image lies in kseg0 and kseg1, which the TLB does not map, and has
 -- at most as many bytes as this machine's RAM (MIPS R4000 Microprocessor User's Manual, 2nd edition, Heinrich,
 -- chapter 4).
-use Rattle.std.specs.Prelude.{ℕ, ◌+◌, ◌-◌, ◌*◌, ◌%◌, ◌^◌, ◌==◌, nat_lt, nat_le, Bool, true, false, not, ◌&&◌, ◌||◌, if◌then◌else◌, List, [], ◌∷◌, length, take, map, slice_get, Option, Some, None, is_some, option_map, option_and_then, codes, bytes_eq}
+use Rattle.std.specs.Prelude.{ℕ, ◌+◌, ◌-◌, ◌*◌, ◌%◌, ◌^◌, ◌==◌, nat_lt, Bool, true, false, not, ◌&&◌, ◌||◌, if◌then◌else◌, List, [], ◌∷◌, length, take, map, slice_get, Option, Some, None, is_some, option_map, option_and_then, codes, bytes_eq}
 use Rattle.std.specs.List.{filter_map}
+use Rattle.flat_ram.specs.Map.{ram_size}
+use Rattle.flat_ram.specs.Unmapped.{is_unmapped}
 use Rattle.mips_text.specs.declared.reason.AsmWhy.{AsmWhy}
 use Rattle.mips_text.specs.declared.reason.AsmWhy.TheVariants as why
-use Rattle.mips_text.specs.Line.{Item, Plain, BranchTo, JumpTo, LoadNumber, LoadLabel, Words, Bytes, Zeros, Origin, Aligned, Line, Reading, Read, Refused, read_line}
+use Rattle.mips_text.specs.declared.item.Item.{Item}
+use Rattle.mips_text.specs.declared.item.Item.TheVariants.{Plain, BranchTo, JumpTo, LoadNumber, LoadLabel, Words, Bytes, Zeros, Origin, Aligned}
+use Rattle.mips_text.specs.declared.item.Line.{Line}
+use Rattle.mips_text.specs.Line.{Reading, Read, Refused, read_line}
 use Rattle.mips_text.specs.Coded.{padding_to, label_at}
 
 -- a byte before the lines of what follows it
@@ -111,23 +116,15 @@ labels_of lines = filter_map (λ (line : Placed). label_read line.address line.r
 
 -- REASONS
 
--- an image has at most this many bytes
-abbrev pub most_bytes : ℕ
-most_bytes = 8388608
-
--- an address of kseg0 or kseg1
-abbrev pub is_unmapped : ℕ → Bool
-is_unmapped address = nat_le 0x80000000 address && nat_lt address 0xc0000000
-
 -- an `.org` moves back, or the base that it gives is no unmapped address
 abbrev pub moves_wrongly : ℕ → ℕ → Option Item → Bool
 moves_wrongly base address (Some (Origin origin)) = nat_lt origin address || not (is_unmapped base)
 moves_wrongly base address item = false
 
--- a line moves wrongly, or ends more bytes after the base than an image may have
+-- a line moves wrongly, or ends more bytes after the base than RAM has
 abbrev pub breaks_range : ℕ → ℕ → Line → Bool
 breaks_range base address line =
-    moves_wrongly base address line.item || nat_lt most_bytes (address + size_of address line.item - base)
+    moves_wrongly base address line.item || nat_lt ram_size (address + size_of address line.item - base)
 
 -- a label stands a second time
 abbrev pub stands_twice : List (List ℕ × ℕ) → Option (List ℕ) → Bool

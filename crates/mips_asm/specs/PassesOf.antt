@@ -1,7 +1,8 @@
 -- What the calls of the two passes come to.
 use Rattle.std.specs.Prelude.{◌≡◌, ℕ, ◌+◌, ◌++◌, List, [], ◌∷◌, Option, Some}
 use Rattle.mips_text.specs.declared.reason.AsmWhy.{AsmWhy}
-use Rattle.mips_text.specs.Line.{Line, Reading, Read}
+use Rattle.mips_text.specs.declared.item.Line.{Line}
+use Rattle.mips_text.specs.Line.{Reading, Read}
 use Rattle.mips_asm.specs.declared.coding.Stop.{Stop}
 use Rattle.mips_asm.specs.declared.coding.Stop.TheVariants.{Lacks, Memory}
 use Rattle.mips_asm.specs.declared.built.AsmFault.{AsmFault}

@@ -5,15 +5,13 @@ ghost use Rattle.flat_ram.specs.Bytes.{bytes_of, zeros_of};
 ghost use Rattle.mips3_table.specs.Instructions.{IsInst};
 ghost use Rattle.mips_text.specs.Coded as law;
 ghost use Rattle.mips_text.specs.Printed as printed;
-ghost use Rattle.mips_text.specs.Values.{bytes_of_text};
 ghost use Rattle.mips_text.specs.Coded.{label_at};
-ghost use Rattle.mips_asm.specs.Shown.{IsAppended, IsCoded, IsSound, NeedsNoLabel, item_shown, target_shown, word_shown};
+ghost use Rattle.mips_asm.specs.Shown.{IsAppended, IsCoded, IsSound, NeedsNoLabel, word_shown};
 
-use crate::items::{Goal, Item};
 use crate::labels::Labels;
 use crate::layout::padding;
 use crate::operands::bare;
-use mips_text::{AsmWhy, push_text, text_size};
+use mips_text::{AsmWhy, Item, Target};
 use mips3_code::encode;
 use mips3_table::Inst;
 use std::alloc::AllocError;
@@ -167,12 +165,12 @@ fn put_words(words: &[u32], bytes: &mut Vec<u8>) -> Result<(), AllocError>
 }
 
 /// The address of a target.
-fn address_of(labels: &Labels, goal: Goal) -> Option<u32>
-    ensures { result ≡ law.address_of labels.now (target_shown goal.entry) }
+fn address_of(labels: &Labels, target: &Target) -> Option<u32>
+    ensures { result ≡ law.address_of labels.now target.now }
 {
-    match goal {
-        Goal::Address(address) => Some(address),
-        Goal::Label(name) => labels.address_of(name),
+    match target {
+        Target::Address(address) => Some(*address),
+        Target::Label(name) => labels.address_of(name.text()),
     }
 }
 
@@ -181,17 +179,17 @@ fn put_branch(
     labels: &Labels,
     at: u64,
     inst: &Inst,
-    goal: Goal,
+    target: &Target,
     bytes: &mut Vec<u8>,
 ) -> Result<(), Stop>
     requires far { at < 2 ^ 63 + 2 ^ 33 }
     requires sound { (number : ℕ) → number < 2 ^ 16 → IsInst (record inst.now { imm = number }) }
-    ensures { IsCoded (law.where_known (law.address_of labels.now (target_shown goal.entry)) (law.branch_to inst.now at)) result bytes.old.items bytes.new.items }
+    ensures { IsCoded (law.where_known (law.address_of labels.now target.now) (law.branch_to inst.now at)) result bytes.old.items bytes.new.items }
 {
-    let Some(target) = address_of(labels, goal) else {
+    let Some(address) = address_of(labels, target) else {
         return Err(Stop::Lacks(AsmWhy::NoLabel));
     };
-    let Some(word) = branch_to(inst, at, target) else {
+    let Some(word) = branch_to(inst, at, address) else {
         return Err(Stop::Lacks(AsmWhy::Range));
     };
     put_word(word, bytes)?;
@@ -203,17 +201,17 @@ fn put_jump(
     labels: &Labels,
     at: u64,
     inst: &Inst,
-    goal: Goal,
+    target: &Target,
     bytes: &mut Vec<u8>,
 ) -> Result<(), Stop>
     requires far { at < 2 ^ 63 + 2 ^ 33 }
     requires sound { (number : ℕ) → number < 2 ^ 26 → IsInst (record inst.now { imm = number }) }
-    ensures { IsCoded (law.where_known (law.address_of labels.now (target_shown goal.entry)) (law.jump_to inst.now at)) result bytes.old.items bytes.new.items }
+    ensures { IsCoded (law.where_known (law.address_of labels.now target.now) (law.jump_to inst.now at)) result bytes.old.items bytes.new.items }
 {
-    let Some(target) = address_of(labels, goal) else {
+    let Some(address) = address_of(labels, target) else {
         return Err(Stop::Lacks(AsmWhy::NoLabel));
     };
-    let Some(word) = jump_to(inst, at, target) else {
+    let Some(word) = jump_to(inst, at, address) else {
         return Err(Stop::Lacks(AsmWhy::Range));
     };
     put_word(word, bytes)?;
@@ -237,30 +235,18 @@ fn put_label_loading(
     Ok(())
 }
 
-/// Appends the bytes of a text.
-#[tactic(auto, using(crate::proofs::LabelList::text_given))]
-fn put_text(text: &[u8], bytes: &mut Vec<u8>) -> Result<(), AllocError>
-    ensures { OnOk result (bytes.new.items ≡ bytes.old.items ++ unwrap_or (bytes_of_text text.now) []) }
-{
-    if text_size(text).is_none() {
-        return Ok(());
-    }
-    push_text(text, bytes)
-}
-
 /// Appends what needs no label.
 #[tactic(auto, unfolding(mips_text::specs::Coded::coded_at))]
 fn put_plain(at: u64, item: &Item, bytes: &mut Vec<u8>) -> Result<(), AllocError>
     requires sound { IsSound item.now }
     requires plain { NeedsNoLabel item.now }
-    ensures { (labels : List (List ℕ × ℕ)) → OnOk result (IsAppended (law.coded_at labels at (item_shown item.now)) bytes.old.items bytes.new.items) }
+    ensures { (labels : List (List ℕ × ℕ)) → OnOk result (IsAppended (law.coded_at labels at item.now) bytes.old.items bytes.new.items) }
 {
     match item {
         Item::Plain(inst) => put_word(encode(inst), bytes),
         Item::LoadNumber(register, number) => put_loading(*register, *number, bytes),
-        Item::Words(words) => put_words(words, bytes),
-        Item::Bytes(list) => bytes.extend_from_slice(list),
-        Item::Text(text) => put_text(text, bytes),
+        Item::Words(words) => put_words(words.list(), bytes),
+        Item::Bytes(list) => list.push_to(bytes),
         Item::Zeros(count) => put_zeros(*count as usize, bytes),
         Item::Origin(origin) => put_zeros(u64::from(*origin).saturating_sub(at) as usize, bytes),
         Item::Aligned(Some(power)) => put_zeros(padding(*power, at) as usize, bytes),
@@ -274,12 +260,12 @@ fn put_plain(at: u64, item: &Item, bytes: &mut Vec<u8>) -> Result<(), AllocError
 pub fn put_item(labels: &Labels, at: u64, item: &Item, bytes: &mut Vec<u8>) -> Result<(), Stop>
     requires far { at < 2 ^ 63 + 2 ^ 33 }
     requires sound { IsSound item.now }
-    ensures { IsCoded (law.coded_at labels.now at (item_shown item.now)) result bytes.old.items bytes.new.items }
+    ensures { IsCoded (law.coded_at labels.now at item.now) result bytes.old.items bytes.new.items }
 {
     match item {
-        Item::BranchTo(inst, goal) => put_branch(labels, at, inst, *goal, bytes),
-        Item::JumpTo(inst, goal) => put_jump(labels, at, inst, *goal, bytes),
-        Item::LoadLabel(register, name) => put_label_loading(labels, *register, name, bytes),
+        Item::BranchTo(inst, target) => put_branch(labels, at, inst, target, bytes),
+        Item::JumpTo(inst, target) => put_jump(labels, at, inst, target, bytes),
+        Item::LoadLabel(register, name) => put_label_loading(labels, *register, name.text(), bytes),
         _ => {
             put_plain(at, item, bytes)?;
             Ok(())

@@ -14,14 +14,13 @@
 
 mod built;
 mod coding;
-mod items;
+mod expected;
 mod labels;
 mod layout;
 mod matching;
 mod operands;
 mod passes;
 mod reading;
-mod slots;
 mod sources;
 mod statements;
 

@@ -9,15 +9,16 @@ ghost use Rattle.mips_text.specs.Forms as forms;
 ghost use Rattle.mips_text.specs.Tokens.{IsWithin};
 ghost use Rattle.mips_text.specs.Values.{number_of as number_law};
 ghost use Rattle.mips_text.specs.Line as law;
-ghost use Rattle.mips_asm.specs.Shown.{IsSound, item_shown, target_shown};
-ghost use Rattle.mips_asm.specs.StatementsOf.{AreWidths, IsStatement, field_shown, slot_shown, slots_shown, statement_shown};
+ghost use Rattle.mips_asm.specs.Shown.{IsSound};
+ghost use Rattle.mips_asm.specs.StatementsOf.{AreWidths, IsStatement};
 
-use crate::items::{Goal, Item};
+use crate::expected::expected_of;
 use crate::matching::text_of;
-use crate::slots::{Place, Slot, slots_of};
-use crate::statements::Statement;
 use arrayvec::ArrayVec;
-use mips_text::{Token, TokenKind, cp0_register_of, number_of, register_of};
+use mips_text::{
+    Bytes, Expected, Field, Item, Name, Statement, Target, Token, TokenKind, Words,
+    cp0_register_of, number_of, register_of,
+};
 use mips3_table::{Form, Inst, form_of};
 
 /// The rows of `beq` and `or` in the table.
@@ -56,47 +57,46 @@ fn cp0_register_value(text: &[u8]) -> u8
 }
 
 /// An instruction with another value in a field.
-fn with_field(place: Place, value: u32, inst: Inst) -> Inst
-    ensures { result ≡ law.with_field (field_shown place) value inst }
+fn with_field(field: Field, value: u32, inst: Inst) -> Inst
+    ensures { result ≡ law.with_field field value inst }
 {
     let small = (value % 32) as u8;
-    match place {
-        Place::Rs => Inst { rs: small, ..inst },
-        Place::Rt => Inst { rt: small, ..inst },
-        Place::Rd => Inst { rd: small, ..inst },
-        Place::Sa => Inst { sa: small, ..inst },
-        Place::Imm => Inst { imm: value, ..inst },
+    match field {
+        Field::Rs => Inst { rs: small, ..inst },
+        Field::Rt => Inst { rt: small, ..inst },
+        Field::Rd => Inst { rd: small, ..inst },
+        Field::Sa => Inst { sa: small, ..inst },
+        Field::Imm => Inst { imm: value, ..inst },
     }
 }
 
 /// An instruction with the field that a token gives.
-fn with_operand(slot: &Slot, text: &[u8], inst: Inst) -> Inst
-    ensures { result ≡ law.with_operand (slot_shown slot.now) text.now inst }
+fn with_operand(one: &Expected, text: &[u8], inst: Inst) -> Inst
+    ensures { result ≡ law.with_operand one.now text.now inst }
 {
-    match slot {
-        Slot::Register(place) => with_field(*place, u32::from(register_value(text)), inst),
-        Slot::Cp0Register => with_field(Place::Rd, u32::from(cp0_register_value(text)), inst),
-        Slot::Small(place) => with_field(*place, low_bits(32, number_value(text)), inst),
-        Slot::Number(_) | Slot::AnyNumber => {
-            with_field(Place::Imm, low_bits(32, number_value(text)), inst)
+    match one {
+        Expected::ARegister(field) => with_field(*field, u32::from(register_value(text)), inst),
+        Expected::ACp0Register(field) => {
+            with_field(*field, u32::from(cp0_register_value(text)), inst)
         }
-        Slot::Target | Slot::Label | Slot::Text | Slot::Mark(_) => inst,
+        Expected::ANumber(field, _) => with_field(*field, low_bits(32, number_value(text)), inst),
+        Expected::ATarget | Expected::ALabel | Expected::AText | Expected::AMark(_) => inst,
     }
 }
 
 /// An instruction with the fields that tokens give.
-fn with_operands(line: &[u8], slots: &[Slot], list: &[Token], inst: Inst) -> Inst
+fn with_operands(line: &[u8], expected: &[Expected], list: &[Token], inst: Inst) -> Inst
     requires { All (IsWithin (length line.now)) list.now }
-    ensures { result ≡ law.with_operands line.now (slots_shown slots.now) list.now inst }
+    ensures { result ≡ law.with_operands line.now expected.now list.now inst }
 {
-    let [slot, slots @ ..] = slots else {
+    let [one, expected @ ..] = expected else {
         return inst;
     };
     let [token, list @ ..] = list else {
         return inst;
     };
-    let next = with_operand(slot, text_of(line, token), inst);
-    with_operands(line, slots, list, next)
+    let next = with_operand(one, text_of(line, token), inst);
+    with_operands(line, expected, list, next)
 }
 
 /// How many bits each field of a form has.
@@ -192,14 +192,14 @@ fn inst_of(line: &[u8], row: u8, statement: Statement, operands: &[Token]) -> In
     requires row { row < 129 }
     requires statement { IsStatement statement }
     requires within { All (IsWithin (length line.now)) operands.now }
-    ensures value { result ≡ law.inst_of line.now row (statement_shown statement) operands.now }
+    ensures value { result ≡ law.inst_of line.now row statement operands.now }
     ensures row { result.row ≡ row }
     ensures sound { FitsWidths (widths_at row) result }
 {
-    let slots = slots_of(statement, operands.len());
+    let expected = expected_of(statement, operands.len());
     fitted(
         form_of(row),
-        with_operands(line, &slots, operands, bare(row)),
+        with_operands(line, &expected, operands, bare(row)),
     )
 }
 
@@ -223,24 +223,24 @@ fn natural_value(text: &[u8]) -> u32
 }
 
 /// What a token names as a target.
-fn target_of<'a>(kind: TokenKind, text: &'a [u8]) -> Goal<'a>
-    ensures { target_shown result ≡ law.target_of kind text.now }
+fn target_of<'a>(kind: TokenKind, text: &'a [u8]) -> Target<'a>
+    ensures { result ≡ law.target_of kind text.now }
 {
     if matches!(kind, TokenKind::Name) {
-        return Goal::Label(text);
+        return Target::Label(Name::new(text));
     }
-    Goal::Address(natural_value(text))
+    Target::Address(natural_value(text))
 }
 
 /// The target at an index.
-fn target_at<'a>(line: &'a [u8], list: &[Token], at: usize) -> Goal<'a>
+fn target_at<'a>(line: &'a [u8], list: &[Token], at: usize) -> Target<'a>
     requires { All (IsWithin (length line.now)) list.now }
-    ensures { target_shown result ≡ law.target_at line.now list.now at }
+    ensures { result ≡ law.target_at line.now list.now at }
 {
     if at < list.len() {
         target_of(list[at].kind, text_of(line, &list[at]))
     } else {
-        Goal::Address(0)
+        Target::Address(0)
     }
 }
 
@@ -292,7 +292,7 @@ fn item_by_form<'a>(line: &'a [u8], form: Form, inst: Inst, operands: &[Token]) 
     requires row { inst.row < 129 }
     requires form { widths_of form ≡ widths_at inst.row }
     requires sound { FitsWidths (widths_of form) inst }
-    ensures value { item_shown result ≡ law.item_by_form line.now form inst operands.now }
+    ensures value { result ≡ law.item_by_form line.now form inst operands.now }
     ensures sound { IsSound result }
 {
     match form {
@@ -309,7 +309,7 @@ pub fn item_of<'a>(line: &'a [u8], statement: Statement, operands: &[Token]) -> 
     requires few { length operands.now < 64 }
     requires row { IsStatement statement }
     requires within { All (IsWithin (length line.now)) operands.now }
-    ensures value { item_shown result ≡ law.item_of line.now (statement_shown statement) operands.now }
+    ensures value { result ≡ law.item_of line.now statement operands.now }
     ensures sound { IsSound result }
 {
     match statement {
@@ -326,28 +326,28 @@ pub fn item_of<'a>(line: &'a [u8], statement: Statement, operands: &[Token]) -> 
         }
         Statement::La => Item::LoadLabel(
             register_value(text_at(line, operands, 0)),
-            text_at(line, operands, 2),
+            Name::new(text_at(line, operands, 2)),
         ),
         Statement::Move => Item::Plain(inst_of(line, OR, statement, operands)),
         Statement::Nop => {
             let mut words = ArrayVec::new();
             words.push(0);
-            Item::Words(words)
+            Item::Words(Words::new(words))
         }
         Statement::Branch => Item::BranchTo(bare(BEQ), target_at(line, operands, 0)),
         Statement::Org => Item::Origin(natural_value(text_at(line, operands, 0))),
         Statement::Word => {
             let mut words = ArrayVec::new();
             put_words(line, operands, &mut words);
-            Item::Words(words)
+            Item::Words(Words::new(words))
         }
         Statement::Byte => {
             let mut bytes = ArrayVec::new();
             put_bytes(line, operands, &mut bytes);
-            Item::Bytes(bytes)
+            Item::Bytes(Bytes::of_numbers(bytes))
         }
         Statement::Space => Item::Zeros(natural_value(text_at(line, operands, 0))),
         Statement::Align => Item::Aligned(alignment_of(text_at(line, operands, 0))),
-        Statement::Ascii => Item::Text(text_at(line, operands, 0)),
+        Statement::Ascii => Item::Bytes(Bytes::of_text(text_at(line, operands, 0))),
     }
 }

@@ -1,25 +1,26 @@
 //! The base of a source, and the two passes over its lines.
 
 ghost use Rattle.std.specs.Prelude.{◌≡◌, ℕ, ◌<◌, ◌≤◌, ◌+◌, [], ◌^◌, length, unwrap_or, Some, None, IfOk, IfErr, OnOk};
+ghost use Rattle.flat_ram.specs.Map.{ram_size};
 ghost use Rattle.mips_text.specs.Line.{read_line as read_law};
 ghost use Rattle.mips_asm.specs.Layout as layout;
 ghost use Rattle.mips_asm.specs.Layout.{labels_of, layout_fault, placed, placed_at, readings_of};
 ghost use Rattle.mips_asm.specs.Assembly.{HasNoFault, Image, IsFaultless, assembled, bytes_of_lines, coded_line, coding_fault, entry_of, source_base, source_bytes, source_labels};
-ghost use Rattle.mips_asm.specs.Shown.{IsCoded, IsSoundLine, item_shown, line_shown};
+ghost use Rattle.mips_asm.specs.Shown.{IsCoded, IsSoundLine};
 ghost use Rattle.mips_asm.specs.PassesOf.{IsFaultOf, IsRefused, IsRefusedBy, IsStopped, address_after, labels_after};
 
 use crate::built::{AsmFault, Built};
 use crate::coding::{Stop, put_item};
-use crate::items::{Item, Line};
 use crate::labels::Labels;
 use crate::layout::{USUAL_BASE, fault_at, puts_first_byte, size_of};
 use crate::reading::read_line;
 use crate::sources::split_line;
+use mips_text::{Item, Line};
 use std::alloc::Global;
 
 /// The base that a statement decides, if it does.
 fn decided_base(item: &Item) -> Option<u32>
-    ensures { (later : ℕ) → unwrap_or result later ≡ layout.base_by_item (Some (item_shown item.now)) later }
+    ensures { (later : ℕ) → unwrap_or result later ≡ layout.base_by_item (Some item.now) later }
 {
     if let Item::Origin(address) = item {
         return Some(*address);
@@ -74,20 +75,20 @@ fn lay_line(
     labels: &mut Labels,
 ) -> Result<u64, Stop>
     requires after { base ≤ address }
-    requires near { address ≤ base + 8388608 }
+    requires near { address ≤ base + ram_size }
     requires sound { IsSoundLine line.now }
-    ensures stands { OnOk result (layout.fault_at base address labels.old (line_shown line.now) ≡ None) }
-    ensures next { IfOk result (λ next. next ≡ address + layout.size_of address (line_shown line.now).item) }
-    ensures labels { OnOk result (labels.new ≡ labels_after labels.old address (line_shown line.now)) }
-    ensures stops { IfErr result (IsStopped (layout.fault_at base address labels.old (line_shown line.now))) }
+    ensures stands { OnOk result (layout.fault_at base address labels.old line.now ≡ None) }
+    ensures next { IfOk result (λ next. next ≡ address + layout.size_of address line.now.item) }
+    ensures labels { OnOk result (labels.new ≡ labels_after labels.old address line.now) }
+    ensures stops { IfErr result (IsStopped (layout.fault_at base address labels.old line.now)) }
     ensures after { IfOk result (λ next. base ≤ next) }
-    ensures near { IfOk result (λ next. next ≤ base + 8388608) }
+    ensures near { IfOk result (λ next. next ≤ base + ram_size) }
 {
     if let Some(why) = fault_at(base, address, labels, line) {
         return Err(Stop::Lacks(why));
     }
-    if let Some(name) = line.label {
-        labels.add(alloc, name, (address % 0x100000000) as u32)?;
+    if let Some(name) = &line.label {
+        labels.add(alloc, name.text(), (address % 0x100000000) as u32)?;
     }
     Ok(address + size_of(address, &line.item))
 }
@@ -97,7 +98,7 @@ pub fn first_pass(alloc: Global, base: u32, source: &[u8]) -> Result<Labels, Asm
     requires { length source.now ≤ 4294967294 }
     ensures labels { IfOk result (λ labels. labels ≡ labels_of (placed base (readings_of source.now))) }
     ensures sound { OnOk result (HasNoFault (layout_fault base (placed base (readings_of source.now)))) }
-    ensures size { OnOk result (address_after base (readings_of source.now) ≤ base + 8388608) }
+    ensures size { OnOk result (address_after base (readings_of source.now) ≤ base + ram_size) }
     ensures fault { IfErr result (IsFaultOf (layout_fault base (placed base (readings_of source.now)))) }
 {
     let mut labels = Labels::new(alloc);
@@ -173,7 +174,7 @@ pub fn assemble(alloc: Global, source: &[u8]) -> Result<Built, AsmFault>
     ensures base { IfOk result (λ built. built.base ≡ source_base source.now) }
     ensures entry { IfOk result (λ built. built.entry ≡ entry_of built.base (source_labels source.now)) }
     ensures bytes { IfOk result (λ built. built.bytes.items ≡ source_bytes source.now) }
-    ensures size { IfOk result (λ built. length built.bytes.items ≤ 8388608) }
+    ensures size { IfOk result (λ built. length built.bytes.items ≤ ram_size) }
     ensures faultless { OnOk result (IsFaultless source.now) }
 
     // The first line that has a fault.

@@ -6,12 +6,18 @@ use Rattle.mips_text.specs.declared.token.TokenKind.TheVariants.{Name, Number}
 use Rattle.mips_text.specs.Names.{register_name, cp0_name}
 use Rattle.r4_words.specs.Texts.{dec_of}
 use Rattle.mips_text.specs.Values.{hex_text, signed_text, number_of, bounded}
-use Rattle.mips_text.specs.Forms.{Field, Rs, Rd, Imm, Operand, Register, Cp0Register, Decimal, Hexadecimal, Signed, Based, BranchTarget, JumpTarget, ACp0Register, ANumber, unsigned, signed, in_range}
-use Rattle.mips_text.specs.Printed.{field_of, sign_extended, branch_target, jump_target}
+use Rattle.mips_text.specs.declared.operand.Field.{Field}
+use Rattle.mips_text.specs.declared.operand.Field.TheVariants.{Rs, Rd, Imm}
+use Rattle.mips_text.specs.declared.operand.Operand.{Operand}
+use Rattle.mips_text.specs.declared.operand.Operand.TheVariants.{Register, Cp0Register, Decimal, Hexadecimal, Signed, Based, BranchTarget, JumpTarget}
+use Rattle.mips_text.specs.declared.operand.Expected.TheVariants.{ACp0Register, ANumber}
+use Rattle.mips_text.specs.declared.operand.Range.TheVariants.{Unsigned, WithSign}
+use Rattle.mips_text.specs.Forms.{in_range}
+use Rattle.mips_text.specs.Printed.{field_of, sign_extended, branch_target, jump_target, OperandFits, AllFit}
 use Rattle.mips_text.specs.Line.{natural, number_value, in_bits, register_value, cp0_register_value, with_field}
 use Rattle.mips_text.proofs.ReadValues.{register_read, cp0_read, decimal_read, hexadecimal_read, signed_value, signed_read}
 use Rattle.mips_text.proofs.Places.{Place, place, Agrees, AllAgree, with_places}
-use Rattle.mips_text.proofs.OperandPlaces.{register_place, signed_place, target_place, mark_place, places_before, places_of, OperandFits, AllFit}
+use Rattle.mips_text.proofs.OperandPlaces.{register_place, signed_place, target_place, mark_place, places_before, places_of}
 
 -- a general register
 register_agrees : (field : Field) (register : ℕ) → register < 32 → Agrees (register_place field register)
@@ -32,11 +38,11 @@ cp0_back register lt =
     ap (λ r. unwrap_or r 0 % 2 ^ 5) (cp0_read register lt) ∙ small
 
 -- a number without a sign
-unsigned_range : (width n : ℕ) → n < 2 ^ width → in_range (unsigned width) (pos n) ≡ true
+unsigned_range : (width n : ℕ) → n < 2 ^ width → in_range (Unsigned width) (pos n) ≡ true
 unsigned_range width n lt = let within : nat_le n (2 ^ width - 1) ≡ true = le-leb n (2 ^ width - 1) (omega arith) in grind (arith, common_steps)
 
-number_agrees : (field : Field) (width n : ℕ) (text : List ℕ) → number_of text ≡ pos n → n < 2 ^ width → Agrees (place (ANumber field (unsigned width)) Number text)
-number_agrees field width n text is lt = record { known = refl; kind = refl; range = ap (in_range (unsigned width)) is ∙ unsigned_range width n lt }
+number_agrees : (field : Field) (width n : ℕ) (text : List ℕ) → number_of text ≡ pos n → n < 2 ^ width → Agrees (place (ANumber field (Unsigned width)) Number text)
+number_agrees field width n text is lt = record { known = refl; kind = refl; range = ap (in_range (Unsigned width)) is ∙ unsigned_range width n lt }
 
 bounded_small : (n : ℕ) → n < 2 ^ 32 → bounded (pos n) ≡ Some (pos n)
 bounded_small n lt = ap (λ b. if b then Some (pos n) else None) (lt-ltb n (2 ^ 32) lt)
@@ -51,7 +57,7 @@ number_back n text is lt =
 
 -- an address
 target_agrees : (target : ℕ) → target < 2 ^ 32 → Agrees (target_place target)
-target_agrees target lt = record { known = refl; kind = refl; range = ap (in_range (unsigned 32)) (hexadecimal_read target) ∙ unsigned_range 32 target lt }
+target_agrees target lt = record { known = refl; kind = refl; range = ap (in_range (Unsigned 32)) (hexadecimal_read target) ∙ unsigned_range 32 target lt }
 
 pub target_back : (target : ℕ) → target < 2 ^ 32 → natural (number_value (hex_text target)) ≡ target
 target_back target lt = ap natural (value_back target (hex_text target) (hexadecimal_read target) lt)
@@ -71,7 +77,7 @@ negated half lt = let one_more : 2 ^ 16 - half ≡ suc (2 ^ 16 - 1 - half) = ome
 bounded_negative : (n : ℕ) → n < 2 ^ 16 → bounded (negsuc n) ≡ Some (negsuc n)
 bounded_negative n lt = ap (λ b. if b then Some (negsuc n) else None) (lt-ltb (suc n) (2 ^ 32) (omega arith))
 
-range_by : (half : ℕ) (low : Bool) → half < 2 ^ 16 → nat_lt half (2 ^ 15) ≡ low → in_range (signed 16) (if low then pos half else neg_ℤ (pos (2 ^ 16 - half))) ≡ true
+range_by : (half : ℕ) (low : Bool) → half < 2 ^ 16 → nat_lt half (2 ^ 15) ≡ low → in_range (WithSign 16) (if low then pos half else neg_ℤ (pos (2 ^ 16 - half))) ≡ true
 range_by half true lt is =
     let small = ltb-true half (2 ^ 15) is in
     let within : nat_le half (2 ^ 15 - 1) ≡ true = le-leb half (2 ^ 15 - 1) (omega arith) in
@@ -79,13 +85,13 @@ range_by half true lt is =
 range_by half false lt is =
     let large = ltb-false half (2 ^ 15) is in
     let within : nat_le (2 ^ 16 - 1 - half) (2 ^ 15 - 1) ≡ true = le-leb (2 ^ 16 - 1 - half) (2 ^ 15 - 1) (omega arith) in
-    ap (in_range (signed 16)) (negated half lt) ∙ ap (λ b. b && true) within
+    ap (in_range (WithSign 16)) (negated half lt) ∙ ap (λ b. b && true) within
 
-signed_range : (half : ℕ) → half < 2 ^ 16 → in_range (signed 16) (signed_value half) ≡ true
+signed_range : (half : ℕ) → half < 2 ^ 16 → in_range (WithSign 16) (signed_value half) ≡ true
 signed_range half lt = range_by half (nat_lt half (2 ^ 15)) lt refl
 
 signed_agrees : (half : ℕ) → half < 2 ^ 16 → Agrees (signed_place half)
-signed_agrees half lt = record { known = refl; kind = refl; range = ap (in_range (signed 16)) (signed_read half lt) ∙ signed_range half lt }
+signed_agrees half lt = record { known = refl; kind = refl; range = ap (in_range (WithSign 16)) (signed_read half lt) ∙ signed_range half lt }
 
 bits_by : (half : ℕ) (low : Bool) → half < 2 ^ 16 → nat_lt half (2 ^ 15) ≡ low →
     in_bits 32 (unwrap_or (bounded (if low then pos half else neg_ℤ (pos (2 ^ 16 - half)))) (pos 0)) ≡ (if low then half else half + (2 ^ 32 - 2 ^ 16))

@@ -10,8 +10,15 @@ use Rattle.mips_text.specs.declared.reason.AsmWhy.TheVariants as why
 use Rattle.mips_text.specs.declared.token.Token.{Token}
 use Rattle.mips_text.specs.declared.token.TokenKind.{TokenKind}
 use Rattle.mips_text.specs.declared.token.TokenKind.TheVariants.{Name}
-use Rattle.mips_text.specs.Forms.{Expected, Shape, Statement, Instruction, operands_of, shape_of, separated, statement_named, token_text, names_no_register, has_kind, has_range}
-use Rattle.mips_text.specs.Line.{Target, Address, Item, Plain, BranchTo, JumpTo, Parts, Reading, Read, Refused, tokens_expected, some_unknown, all_agree, all_in_range, operands_fault, with_operand, with_operands, fitted, bare, target_of, target_at, item_by_form, item_of, is_colon, is_name, parts_of, statement_by_fault, statement_by_name, read_statement, read_cut}
+use Rattle.mips_text.specs.declared.operand.Expected.{Expected}
+use Rattle.mips_text.specs.declared.statement.Statement.{Statement}
+use Rattle.mips_text.specs.declared.statement.Statement.TheVariants.{Instruction}
+use Rattle.mips_text.specs.Forms.{Shape, operands_of, shape_of, separated, statement_named, token_text, names_no_register, has_kind, has_range}
+use Rattle.mips_text.specs.declared.item.Target.{Target}
+use Rattle.mips_text.specs.declared.item.Target.TheVariants.{Address}
+use Rattle.mips_text.specs.declared.item.Item.{Item}
+use Rattle.mips_text.specs.declared.item.Item.TheVariants.{Plain, BranchTo, JumpTo}
+use Rattle.mips_text.specs.Line.{Parts, Reading, Read, Refused, tokens_expected, some_unknown, all_agree, all_in_range, operands_fault, with_operand, with_operands, fitted, bare, target_of, target_at, item_by_form, item_of, is_colon, is_name, parts_of, statement_by_fault, statement_by_name, read_statement, read_cut}
 use Rattle.mips_text.proofs.Pieces.{Piece, piece, Spells}
 
 -- a place of a statement: what is expected there, and the token that stands there

@@ -11,46 +11,19 @@ use Rattle.mips_text.specs.declared.reason.AsmWhy.TheVariants as why
 use Rattle.mips_text.specs.declared.token.TokenKind.TheVariants.{Name}
 use Rattle.mips_text.specs.Tokens.{tokens_of, cut_from, start_of}
 use Rattle.mips_text.specs.Values.{hex_text}
-use Rattle.mips_text.specs.Forms.{operands_of, row_named, statement_named, Instruction}
-use Rattle.mips_text.specs.Printed.{sign_extended, branch_target, jump_target, by_form, text_of}
-use Rattle.mips_text.specs.Line.{Words, read_line, read_statement, operands_fault, item_of, read_cut, parts_of, fitted, bare, natural, number_value}
+use Rattle.mips_text.specs.declared.statement.Statement.TheVariants.{Instruction}
+use Rattle.mips_text.specs.Forms.{operands_of, row_named, statement_named}
+use Rattle.mips_text.specs.Printed.{sign_extended, branch_target, jump_target, AllFit, by_form, text_of}
+use Rattle.mips_text.proofs.FormOperands.{fit_form, few_operands}
+use Rattle.mips_text.specs.declared.item.Item.TheVariants.{Words}
+use Rattle.mips_text.specs.Line.{read_line, read_statement, operands_fault, item_of, read_cut, parts_of, fitted, bare, natural, number_value}
 use Rattle.mips_text.specs.Coded.{Lacking, distance_to, word_number, word_of, branch_to, jump_to, coded_at}
 use Rattle.mips_text.specs.ReadBack.{ReadsAs}
 use Rattle.mips_text.proofs.Pieces.{piece, row_piece}
 use Rattle.mips_text.proofs.ReadValues.{name_read}
 use Rattle.mips_text.proofs.Places.{item_by, item_of_row, item_of_spelled, cut_spelled}
-use Rattle.mips_text.proofs.OperandPlaces.{places_of, AllFit, expected_places, colon_places, cut_line}
+use Rattle.mips_text.proofs.OperandPlaces.{places_of, expected_places, colon_places, cut_line}
 use Rattle.mips_text.proofs.OperandValues.{agree_places, all_taken, with_operands_back, target_back, branch_target_below, jump_target_below}
-
--- the fields of an instruction that a form uses are in range for its operands
-fit_form : (form : Form) (inst : Inst) → FitsWidths (widths_of form) inst → AllFit inst (operands_of form)
-fit_form Target inst fits = (fits.imm, tt)
-fit_form CompareBranch inst fits = (fits.rs, (fits.rt, (fits.imm, tt)))
-fit_form ZeroBranch inst fits = (fits.rs, (fits.imm, tt))
-fit_form SignedImmediate inst fits = (fits.rt, (fits.rs, (fits.imm, tt)))
-fit_form UnsignedImmediate inst fits = (fits.rt, (fits.rs, ((fits.imm, omega arith), tt)))
-fit_form UpperImmediate inst fits = (fits.rt, ((fits.imm, omega arith), tt))
-fit_form Memory inst fits = (fits.rt, ((fits.imm, fits.rs), tt))
-fit_form CacheOperation inst fits = ((fits.rt, omega arith), ((fits.imm, fits.rs), tt))
-fit_form CoprocessorNumber inst fits = ((fits.imm, omega arith), tt)
-fit_form CoprocessorMemory inst fits = ((fits.rt, omega arith), ((fits.imm, fits.rs), tt))
-fit_form Shift inst fits = (fits.rd, (fits.rt, ((fits.sa, omega arith), tt)))
-fit_form ShiftByRegister inst fits = (fits.rd, (fits.rt, (fits.rs, tt)))
-fit_form Source inst fits = (fits.rs, tt)
-fit_form JumpAndLinkRegister inst fits = (fits.rd, (fits.rs, tt))
-fit_form Code inst fits = ((fits.imm, omega arith), tt)
-fit_form NoOperands inst fits = tt
-fit_form Destination inst fits = (fits.rd, tt)
-fit_form TwoSources inst fits = (fits.rs, (fits.rt, tt))
-fit_form ThreeRegisters inst fits = (fits.rd, (fits.rs, (fits.rt, tt)))
-fit_form TrapRegisters inst fits = (fits.rs, (fits.rt, ((fits.imm, omega arith), tt)))
-fit_form TrapImmediate inst fits = (fits.rs, (fits.imm, tt))
-fit_form Cp0Move inst fits = (fits.rt, (fits.rd, tt))
-
--- a form has three operands at most
-few_operands : (form : Form) → length (operands_of form) ≤ 3
-few_operands Target = omega arith
-few_operands _ = omega arith
 
 -- an instruction by its fields
 same_fields : (one other : Inst) → one.row ≡ other.row → one.rs ≡ other.rs → one.rt ≡ other.rt → one.rd ≡ other.rd → one.sa ≡ other.sa → one.imm ≡ other.imm → one ≡ other

@@ -8,7 +8,11 @@ use Rattle.mips3_code.specs.Coding.{encoded}
 use Rattle.mips_text.specs.declared.reason.AsmWhy.{AsmWhy}
 use Rattle.mips_text.specs.declared.reason.AsmWhy.TheVariants as why
 use Rattle.mips_text.specs.Printed.{branch_target, jump_target}
-use Rattle.mips_text.specs.Line.{Target, Address, Label, Item, Plain, BranchTo, JumpTo, LoadNumber, LoadLabel, Words, Bytes, Zeros, Origin, Aligned, bare, lui_row, ori_row}
+use Rattle.mips_text.specs.declared.item.Target.{Target}
+use Rattle.mips_text.specs.declared.item.Target.TheVariants.{Address, Label}
+use Rattle.mips_text.specs.declared.item.Item.{Item}
+use Rattle.mips_text.specs.declared.item.Item.TheVariants.{Plain, BranchTo, JumpTo, LoadNumber, LoadLabel, Words, Bytes, Zeros, Origin, Aligned}
+use Rattle.mips_text.specs.Line.{bare, lui_row, ori_row}
 
 -- the bytes of a statement, or the reason for which it has none
 pub data Coded : Type 0 where

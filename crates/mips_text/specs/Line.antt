@@ -18,36 +18,19 @@ use Rattle.mips_text.specs.declared.token.TokenKind.TheVariants.{Name, Number, M
 use Rattle.mips_text.specs.Tokens.{tokens_of}
 use Rattle.mips_text.specs.Names.{register_of, cp0_register_of}
 use Rattle.mips_text.specs.Values.{number_of, bounded, bytes_of_text}
-use Rattle.mips_text.specs.Forms.{Field, Rs, Rt, Rd, Sa, Imm, Range, Expected, ARegister, ACp0Register, ANumber, AMark, Shape, Tokens, Numbers, Statement, Instruction, Li, La, Move, Nop, Branch, Org, Word, Byte, Space, Align, Ascii, shape_of, statement_named, token_text, names_no_register, has_kind, has_range}
-
--- Where a branch or a jump goes.
-pub data Target : Type 0 where
-  Address : ℕ → Target
-  Label : List ℕ → Target
-
--- What a statement puts into the image.
-pub data Item : Type 0 where
-  -- an instruction
-  Plain : Inst → Item
-  -- a branch or a jump, whose number comes from its target
-  BranchTo : Inst → Target → Item
-  JumpTo : Inst → Target → Item
-  -- a register loaded with a number of 32 bits, or with the address of a label
-  LoadNumber : ℕ → ℕ → Item
-  LoadLabel : ℕ → List ℕ → Item
-  -- numbers of 32 bits, bytes, and so many zeros
-  Words : List ℕ → Item
-  Bytes : List ℕ → Item
-  Zeros : ℕ → Item
-  -- the address of what follows
-  Origin : ℕ → Item
-  -- zeros up to a multiple of this power of two; None where there is no such alignment
-  Aligned : Option ℕ → Item
-
--- What a line says: a label of what follows, and a statement.
-pub record Line : Type 0 where
-  pub label : Option (List ℕ)
-  pub item : Option Item
+use Rattle.mips_text.specs.declared.item.Target.{Target}
+use Rattle.mips_text.specs.declared.item.Target.TheVariants.{Address, Label}
+use Rattle.mips_text.specs.declared.item.Item.{Item}
+use Rattle.mips_text.specs.declared.item.Item.TheVariants.{Plain, BranchTo, JumpTo, LoadNumber, LoadLabel, Words, Bytes, Zeros, Origin, Aligned}
+use Rattle.mips_text.specs.declared.item.Line.{Line}
+use Rattle.mips_text.specs.declared.operand.Field.{Field}
+use Rattle.mips_text.specs.declared.operand.Field.TheVariants.{Rs, Rt, Rd, Sa, Imm}
+use Rattle.mips_text.specs.declared.operand.Range.{Range}
+use Rattle.mips_text.specs.declared.operand.Expected.{Expected}
+use Rattle.mips_text.specs.declared.operand.Expected.TheVariants.{ARegister, ACp0Register, ANumber, AMark}
+use Rattle.mips_text.specs.declared.statement.Statement.{Statement}
+use Rattle.mips_text.specs.declared.statement.Statement.TheVariants.{Instruction, Li, La, Move, Nop, Branch, Org, Word, Byte, Space, Align, Ascii}
+use Rattle.mips_text.specs.Forms.{Shape, Tokens, Numbers, shape_of, statement_named, token_text, names_no_register, has_kind, has_range}
 
 -- A line as it is read.
 pub data Reading : Type 0 where

@@ -10,19 +10,27 @@
 //! names, numbers and texts stand for; the text of each kind of operand, the text of an instruction.
 #![tactic(auto)]
 
+mod forms;
+mod item;
 mod lexing;
 mod names;
+mod operand;
 mod printing;
 mod reading;
 mod reason;
+mod statement;
 mod texts;
 mod token;
 mod writing;
 
+pub use forms::operands_of;
+pub use item::{Bytes, Item, Line, Name, Target, Words};
 pub use lexing::tokens;
+pub use operand::{Expected, Field, Operand, Range};
 pub use printing::{print_inst, print_word};
 pub use reading::{cp0_register_of, number_of, register_of, row_named};
 pub use reason::AsmWhy;
+pub use statement::Statement;
 pub use texts::{push_text, text_size};
 pub use token::{Token, TokenKind};
 

@@ -74,7 +74,7 @@ pub fn put_signed(half: u32, line: &mut Line)
 pub fn put_based(offset: u32, base: u8, line: &mut Line)
     requires offset { offset < 2 ^ 16 }
     requires base { base < 32 }
-    requires room { array_vec_len line.old ≤ 60 }
+    requires room { array_vec_len line.old ≤ 72 }
     ensures items { line.new.items ≡ line.old.items ++ based_text offset base }
     ensures len { array_vec_len line.new ≤ array_vec_len line.old + 27 }
 {

@@ -1,7 +1,6 @@
 use Rattle.std.proofs.Common.{◌≡◌, length, sym, ap, ◌∙◌, arith}
 use Rattle.std.proofs.lemmas.Grind.{common_steps}
 use Rattle.mips_asm.specs.Layout.{fault_read, readings_of}
-use Rattle.mips_asm.specs.Shown.{line_shown}
 use Rattle.mips_asm.proofs.Bases.{with_first, with_none}
 use Rattle.mips_asm.proofs.Laid.{IsLaidTo, laid_on, laid_fault, laid_sound}
 use Rattle.mips_asm.proofs.passes.first_pass.Goals as goal
@@ -27,7 +26,7 @@ loop-rest-preserved c =
     let split = c.split_line-split in
     let laid = c.in-Ok-lay_line.ensures in
     let here = with_first (IsLaidTo c.args.base (readings_of c.args.source.now) c.loop-rest.number c.loop-rest.address c.loop-rest.labels) c.loop-rest.rest.now split.result.line.now split.result.rest.now split.ensures.lines c.loop-rest.invariant.0 in (
-      laid_on _ _ _ _ _ _ _ (line_shown c.in-Ok.line) c.in-Ok-lay_line.next c.lay_line.new.labels here c.in-Ok.ensures.reading laid.stands laid.next laid.labels,
+      laid_on _ _ _ _ _ _ _ c.in-Ok.line c.in-Ok-lay_line.next c.lay_line.new.labels here c.in-Ok.ensures.reading laid.stands laid.next laid.labels,
       omega (arith, c.loop-rest.invariant, split.ensures.shorter),
       laid.after,
       laid.near,
