@@ -4,6 +4,9 @@ pub mod Bounds
 pub mod NumberList
 pub mod InstRows
 pub mod LineList
-pub mod RowNames
-pub mod PassList
+pub mod Bases
 pub mod Sizes
+pub mod Faults
+pub mod Laid
+pub mod Filled
+pub mod Outcomes

@@ -1,7 +1,5 @@
 -- What holds of each statement that a name tells, and of each token that a statement expects.
-use Rattle.std.specs.Prelude.{ℕ, ◌≡◌, ◌<◌, ◌≤◌}
-use Rattle.mips3_table.specs.Operands.{Widths}
-use Rattle.mips_asm.specs.declared.operands.Bits.{Bits}
+use Rattle.std.specs.Prelude.{ℕ, ◌<◌, ◌≤◌}
 use Rattle.mips_text.specs.declared.operand.Range.{Range}
 use Rattle.mips_text.specs.declared.operand.Range.TheVariants.{Unsigned, WithSign, EitherSign, AnyNumber}
 use Rattle.mips_text.specs.declared.operand.Expected.{Expected}
@@ -25,9 +23,3 @@ IsNarrow AnyNumber = Unit {0}
 abbrev pub IsNarrowAt : Expected → Type 0
 IsNarrowAt (ANumber field range) = IsNarrow range
 IsNarrowAt expected = Unit {0}
-
--- the bits of a form's fields, as the code has them
-abbrev pub AreWidths : Widths → Bits → Type 0
-AreWidths w bits =
-    (bits.rs ≡ w.rs) × (bits.rt ≡ w.rt) × (bits.rd ≡ w.rd) × (bits.sa ≡ w.sa) × (bits.number ≡ w.number)
-    × (bits.rs ≤ 5) × (bits.rt ≤ 5) × (bits.rd ≤ 5) × (bits.sa ≤ 5) × (bits.number ≤ 26)

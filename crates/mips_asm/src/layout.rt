@@ -1,12 +1,13 @@
 //! The addresses of lines, and the reasons for which a line can not stand at its address.
 
 ghost use Rattle.std.specs.Prelude.{◌≡◌, ◌+◌, ◌≤◌, IsNone, IfSome, false};
+ghost use Rattle.flat_ram.specs.Map.{ram_size};
 ghost use Rattle.mips_asm.specs.Layout as law;
 ghost use Rattle.mips_text.specs.Coded as coded;
-ghost use Rattle.mips_asm.specs.PassesOf.{place_at};
 ghost use Rattle.mips_asm.specs.Shown.{IsSound, IsSoundLine};
 
 use crate::labels::Labels;
+use flat_ram::{RAM_SIZE, is_unmapped};
 use mips_text::{AsmWhy, Item, Line, Name};
 
 /// The base of a source whose first byte stands before any `.org`.
@@ -33,12 +34,6 @@ pub fn padding(power: u8, address: u64) -> u64
     (unit - address % unit) % unit
 }
 
-fn is_unmapped(address: u64) -> bool
-    ensures { result ≡ law.is_unmapped address }
-{
-    address >= 0x80000000 && address < 0xc0000000
-}
-
 /// How many bytes a statement puts at an address.
 #[tactic(auto, unfolding(crate::specs::Layout::size_at))]
 pub fn size_at(address: u64, item: &Item) -> u64
@@ -62,7 +57,7 @@ fn moves_wrongly(base: u32, address: u64, item: &Item) -> bool
     ensures { result ≡ law.moves_wrongly base address (Some item.now) }
 {
     match item {
-        Item::Origin(origin) => u64::from(*origin) < address || !is_unmapped(u64::from(base)),
+        Item::Origin(origin) => u64::from(*origin) < address || !is_unmapped(base),
         _ => false,
     }
 }
@@ -92,13 +87,10 @@ pub fn size_of(address: u64, item: &Option<Item>) -> u64
     }
 }
 
-/// An image has at most this many bytes.
-const MOST_BYTES: u64 = 8388608;
-
-/// Whether a line moves wrongly, or ends more bytes after the base than an image may have.
+/// Whether a line moves wrongly, or ends more bytes after the base than RAM has.
 fn breaks_range(base: u32, address: u64, line: &Line) -> bool
     requires after { base ≤ address }
-    requires near { address ≤ base + 8388608 }
+    requires near { address ≤ base + ram_size }
     requires sound { IsSoundLine line.now }
     ensures { result ≡ law.breaks_range base address line.now }
 {
@@ -107,7 +99,7 @@ fn breaks_range(base: u32, address: u64, line: &Line) -> bool
         Some(item) => moves_wrongly(base, address, item),
         None => false,
     };
-    wrong || size > MOST_BYTES || address + size - u64::from(base) > MOST_BYTES
+    wrong || size > RAM_SIZE || address + size - u64::from(base) > RAM_SIZE
 }
 
 /// Whether a label stands a second time.
@@ -142,14 +134,14 @@ fn breaks_alignment(address: u64, line: &Line) -> bool
     misplaced || entry && address % 4 != 0
 }
 
-/// The first reason for which a line can not stand at a place.
+/// The first reason for which a line can not stand at an address, after lines with these labels.
 #[tactic(auto, unfolding(crate::specs::Layout::fault_at))]
 pub fn fault_at(base: u32, address: u64, labels: &Labels, line: &Line) -> Option<AsmWhy>
     requires after { base ≤ address }
-    requires near { address ≤ base + 8388608 }
+    requires near { address ≤ base + ram_size }
     requires sound { IsSoundLine line.now }
-    ensures value { result ≡ law.fault_at base (place_at address labels.now) line.now }
-    ensures fits { IsNone result → address + law.size_of address line.now.item ≤ base + 8388608 }
+    ensures value { result ≡ law.fault_at base address labels.now line.now }
+    ensures fits { IsNone result → address + law.size_of address line.now.item ≤ base + ram_size }
     ensures fresh { IsNone result → law.stands_twice labels.now line.now.label ≡ false }
 {
     let out_of_range = breaks_range(base, address, line);

@@ -4,13 +4,13 @@ ghost use Rattle.std.specs.Prelude.{◌≡◌, ◌<◌, ◌≤◌, ◌+◌, ◌+
 ghost use Rattle.std.specs.List.{All};
 ghost use Rattle.arrayvec.specs.ArrayVec.{array_vec_len};
 ghost use Rattle.mips3_table.specs.Instructions.{FitsWidths, widths_at};
-ghost use Rattle.mips3_table.specs.Operands.{widths_of};
+ghost use Rattle.mips3_table.specs.Operands.{widths_of as widths_law};
 ghost use Rattle.mips_text.specs.Forms as forms;
 ghost use Rattle.mips_text.specs.Tokens.{IsWithin};
 ghost use Rattle.mips_text.specs.Values.{number_of as number_law};
 ghost use Rattle.mips_text.specs.Line as law;
 ghost use Rattle.mips_asm.specs.Shown.{IsSound};
-ghost use Rattle.mips_asm.specs.StatementsOf.{AreWidths, IsStatement};
+ghost use Rattle.mips_asm.specs.StatementsOf.{IsStatement};
 
 use crate::expected::expected_of;
 use crate::matching::text_of;
@@ -19,7 +19,7 @@ use mips_text::{
     Bytes, Expected, Field, Item, Name, Statement, Target, Token, TokenKind, Words,
     cp0_register_of, number_of, register_of,
 };
-use mips3_table::{Form, Inst, form_of};
+use mips3_table::{Form, Inst, form_of, widths_of};
 
 /// The rows of `beq` and `or` in the table.
 const BEQ: u8 = 2;
@@ -99,55 +99,6 @@ fn with_operands(line: &[u8], expected: &[Expected], list: &[Token], inst: Inst)
     with_operands(line, expected, list, next)
 }
 
-/// How many bits each field of a form has.
-#[derive(Clone, Copy)]
-pub struct Bits {
-    rs: u8,
-    rt: u8,
-    rd: u8,
-    sa: u8,
-    number: u8,
-}
-
-fn widths(rs: u8, rt: u8, rd: u8, sa: u8, number: u8) -> Bits
-    ensures { result ≡ record { rs = rs; rt = rt; rd = rd; sa = sa; number = number } }
-{
-    Bits {
-        rs,
-        rt,
-        rd,
-        sa,
-        number,
-    }
-}
-
-/// The bits of the fields of a form.
-fn bits_of(form: Form) -> Bits
-    ensures { AreWidths (widths_of form) result }
-{
-    match form {
-        Form::Target | Form::CoprocessorNumber => widths(0, 0, 0, 0, 26),
-        Form::CompareBranch
-        | Form::SignedImmediate
-        | Form::UnsignedImmediate
-        | Form::Memory
-        | Form::CacheOperation
-        | Form::CoprocessorMemory => widths(5, 5, 0, 0, 16),
-        Form::ZeroBranch | Form::TrapImmediate => widths(5, 0, 0, 0, 16),
-        Form::UpperImmediate => widths(0, 5, 0, 0, 16),
-        Form::Shift => widths(0, 5, 5, 5, 0),
-        Form::ShiftByRegister | Form::ThreeRegisters => widths(5, 5, 5, 0, 0),
-        Form::Source => widths(5, 0, 0, 0, 0),
-        Form::JumpAndLinkRegister => widths(5, 0, 5, 0, 0),
-        Form::Code => widths(0, 0, 0, 0, 20),
-        Form::NoOperands => widths(0, 0, 0, 0, 0),
-        Form::Destination => widths(0, 0, 5, 0, 0),
-        Form::TwoSources => widths(5, 5, 0, 0, 0),
-        Form::TrapRegisters => widths(5, 5, 0, 0, 10),
-        Form::Cp0Move => widths(0, 5, 5, 0, 0),
-    }
-}
-
 /// So many low bits of a register's field.
 fn cut(field: u8, width: u8) -> u8
     requires { width ≤ 5 }
@@ -158,16 +109,16 @@ fn cut(field: u8, width: u8) -> u8
 
 /// An instruction whose fields are the low bits that its form has.
 fn fitted(form: Form, inst: Inst) -> Inst
-    ensures { result ≡ law.fitted (widths_of form) inst }
+    ensures { result ≡ law.fitted (widths_law form) inst }
 {
-    let bits = bits_of(form);
+    let widths = widths_of(form);
     Inst {
         row: inst.row,
-        rs: cut(inst.rs, bits.rs),
-        rt: cut(inst.rt, bits.rt),
-        rd: cut(inst.rd, bits.rd),
-        sa: cut(inst.sa, bits.sa),
-        imm: inst.imm % (1u32 << bits.number),
+        rs: cut(inst.rs, widths.rs),
+        rt: cut(inst.rt, widths.rt),
+        rd: cut(inst.rd, widths.rd),
+        sa: cut(inst.sa, widths.sa),
+        imm: inst.imm % (1u32 << widths.number),
     }
 }
 
@@ -290,8 +241,8 @@ fn alignment_of(text: &[u8]) -> Option<u8>
 fn item_by_form<'a>(line: &'a [u8], form: Form, inst: Inst, operands: &[Token]) -> Item<'a>
     requires within { All (IsWithin (length line.now)) operands.now }
     requires row { inst.row < 129 }
-    requires form { widths_of form ≡ widths_at inst.row }
-    requires sound { FitsWidths (widths_of form) inst }
+    requires form { widths_law form ≡ widths_at inst.row }
+    requires sound { FitsWidths (widths_law form) inst }
     ensures value { result ≡ law.item_by_form line.now form inst operands.now }
     ensures sound { IsSound result }
 {

@@ -4,7 +4,8 @@ ghost use Rattle.std.specs.Prelude.{◌≡◌, IfSome, bytes_eq};
 ghost use Rattle.mips_text.specs.Forms as forms;
 ghost use Rattle.mips_asm.specs.StatementsOf.{IsStatement};
 
-use mips_text::{Statement, row_named};
+use mips_text::Statement;
+use mips3_table::row_named;
 
 /// Whether a text is this name.
 fn reads(text: &[u8], name: &str) -> bool
@@ -14,7 +15,6 @@ fn reads(text: &[u8], name: &str) -> bool
 }
 
 /// The directive of a name, or the instruction.
-#[tactic(auto, using(crate::proofs::RowNames::row_within))]
 fn directive_named(text: &[u8]) -> Option<Statement>
     ensures value { result ≡ forms.directive_of text.now }
     ensures row { IfSome result IsStatement }

@@ -15,7 +15,8 @@ use Rattle.mips_text.specs.declared.token.TokenKind.TheVariants.{Name}
 use Rattle.mips_text.specs.Tokens.{tokens_of, cut_from, start_of}
 use Rattle.mips_text.specs.Values.{hex_text}
 use Rattle.mips_text.specs.declared.statement.Statement.TheVariants.{Instruction}
-use Rattle.mips_text.specs.Forms.{operands_of, row_named, statement_named}
+use Rattle.mips3_table.specs.Matching.{row_named}
+use Rattle.mips_text.specs.Forms.{operands_of, statement_named}
 use Rattle.mips_text.specs.Printed.{AllFit, by_form, text_of}
 use Rattle.mips_text.proofs.Reached.{distance_found, number_found}
 use Rattle.mips_text.proofs.FormOperands.{fit_form, few_operands}

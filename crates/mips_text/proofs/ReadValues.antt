@@ -11,7 +11,8 @@ use Rattle.mips_text.specs.Names.{register_names, register_name, register_of, cp
 use Rattle.mips_text.specs.Values.{number_of, magnitude_of, hex_digits_of, hex_text, signed_text}
 use Rattle.mips_text.specs.declared.statement.Statement.{Statement}
 use Rattle.mips_text.specs.declared.statement.Statement.TheVariants.{Instruction}
-use Rattle.mips_text.specs.Forms.{row_named, statement_named}
+use Rattle.mips3_table.specs.Matching.{row_named}
+use Rattle.mips_text.specs.Forms.{statement_named}
 use Rattle.mips_text.proofs.Naming.{register_count, cp0_count}
 use Rattle.mips_text.proofs.DigitTexts.{some_decimal, all_decimal, some_hexadecimal, all_hexadecimal, number_of_decimal, number_of_hexadecimal}
 use Rattle.mips_text.proofs.Starts.{no_hexadecimal, is_hexadecimal_of}

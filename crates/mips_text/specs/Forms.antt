@@ -4,7 +4,8 @@
 use Rattle.std.specs.Prelude.{ℕ, ℤ, pos, negsuc, int_le, ◌-◌, ◌^◌, ◌==◌, Bool, true, false, ◌&&◌, if◌then◌else◌, List, [], ◌∷◌, ◌++◌, slice_range, slice_index, is_some, is_none, Option, Some, codes, bytes_eq, position, option_map}
 use Rattle.mips3_table.specs.declared.operand_forms.Form.{Form}
 use Rattle.mips3_table.specs.declared.operand_forms.Form.TheVariants.{Target, CompareBranch, ZeroBranch, SignedImmediate, UnsignedImmediate, UpperImmediate, Memory, CacheOperation, CoprocessorNumber, CoprocessorMemory, Shift, ShiftByRegister, Source, JumpAndLinkRegister, Code, NoOperands, Destination, TwoSources, ThreeRegisters, TrapRegisters, TrapImmediate, Cp0Move}
-use Rattle.mips3_table.specs.Rows.{rows, row_at}
+use Rattle.mips3_table.specs.Rows.{row_at}
+use Rattle.mips3_table.specs.Matching.{row_named}
 use Rattle.mips_text.specs.declared.token.Token.{Token}
 use Rattle.mips_text.specs.declared.token.TokenKind.{TokenKind}
 use Rattle.mips_text.specs.declared.token.TokenKind.TheVariants.{Name, Number, Text, Mark}
@@ -84,10 +85,6 @@ shape_of Byte = Numbers (EitherSign 8)
 shape_of Space = Tokens (ANumber Imm (Unsigned 32) ∷ [])
 shape_of Align = Tokens (ANumber Imm AnyNumber ∷ [])
 shape_of Ascii = Tokens (AText ∷ [])
-
--- the row of this name
-unfoldable pub row_named : List ℕ → Option ℕ
-row_named name = position (λ row. bytes_eq name row.name) rows
 
 -- the directive or the instruction of a name, None where it has neither
 abbrev pub directive_of : List ℕ → Option Statement

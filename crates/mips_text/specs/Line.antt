@@ -7,7 +7,7 @@ use Rattle.std.specs.Prelude.{ℕ, ℤ, pos, negsuc, zero, suc, ◌-◌, ◌/◌
 use Rattle.mips3_table.specs.declared.instruction.Inst.{Inst}
 use Rattle.mips3_table.specs.declared.operand_forms.Form.{Form}
 use Rattle.mips3_table.specs.declared.operand_forms.Form.TheVariants as form
-use Rattle.mips3_table.specs.Operands.{Widths}
+use Rattle.mips3_table.specs.declared.operand_forms.Widths.{Widths}
 use Rattle.mips3_table.specs.Rows.{row_at}
 use Rattle.mips3_table.specs.Instructions.{widths_at}
 use Rattle.mips_text.specs.declared.reason.AsmWhy.{AsmWhy}

@@ -8,7 +8,6 @@ ghost use Rattle.mips_text.specs.Values as values;
 
 use crate::lexing::{byte_at, is_hexadecimal, rest_from};
 use crate::names::{cp0_name, register_name};
-use mips3_table::name_of;
 use r4_words::{read_dec, value_of_digit};
 
 /// Whether a text is this name.
@@ -81,21 +80,6 @@ pub fn cp0_register_of(text: &[u8]) -> Option<u8>
         Some(register) => Some(register),
         None => numbered(b'c', text),
     }
-}
-
-/// The row of the instruction table that has this name.
-#[tactic(auto, unfolding(crate::specs::Forms::row_named))]
-pub fn row_named(name: &[u8]) -> Option<u8>
-    ensures { result ≡ forms.row_named name.now }
-{
-    for row in 0..129 {
-        let of_row = name_of(row);
-        let is_it = reads(name, of_row);
-        if is_it {
-            return Some(row);
-        }
-    }
-    None
 }
 
 /// The number of decimal digits, None from 2 ^ 32 on.
