@@ -10,3 +10,6 @@ pub mod Faults
 pub mod Laid
 pub mod Filled
 pub mod Outcomes
+pub mod OneLine
+pub mod OrgLine
+pub mod PrintedSource

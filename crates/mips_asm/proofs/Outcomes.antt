@@ -2,7 +2,7 @@
 use Rattle.std.proofs.Common.{◌≡◌, ◌<◌, ℕ, List, Some, length, ap, sym, ◌∙◌, subst}
 use Rattle.mips_text.specs.declared.reason.AsmWhy.{AsmWhy}
 use Rattle.mips_asm.specs.Layout.{Placed, placed, readings_of, labels_of, layout_fault}
-use Rattle.mips_asm.specs.Assembly.{Image, Bad, HasNoFault, IsFirstFault, least, coding_fault, entry_of, bytes_of_lines, assembled_by_layout, assembled_by_coding, assembled, source_base, source_lines, source_labels, source_bytes, layout_faults, coding_faults}
+use Rattle.mips_asm.specs.Assembly.{Image, Bad, HasNoFault, IsFirstFault, least, coding_fault, entry_of, bytes_of_lines, assembled_by_layout, assembled_by_coding, assembled_all, assembled, source_base, source_lines, source_labels, source_bytes, layout_faults, coding_faults}
 use Rattle.mips_asm.proofs.Faults.{found_within, least_first, least_none}
 
 layout_within : (base : ℕ) (lines : List Placed) (n : ℕ) (reason : AsmWhy) → layout_fault base lines n ≡ Some reason → n < length lines
@@ -34,11 +34,16 @@ refused_by_coding source number reason none is =
     (least_first (coding_faults source) (length (source_lines source)) is.before reason (coding_within (source_labels source) (source_lines source) is.before reason is.has) is.has is.none_before)
     ∙ ap (λ n. Bad n reason) (sym is.counted)
 
+-- lines without a fault
+pub image_of_lines : (base : ℕ) (lines : List Placed) → HasNoFault (layout_fault base lines) → HasNoFault (coding_fault (labels_of lines) lines) → assembled_all base lines ≡ Image base (entry_of base (labels_of lines)) (bytes_of_lines (labels_of lines) lines)
+image_of_lines base lines laid coded =
+    ap (assembled_by_layout base lines) (least_none (layout_fault base lines) (length lines) laid)
+    ∙ ap (assembled_by_coding base (labels_of lines) lines) (least_none (coding_fault (labels_of lines) lines) (length lines) coded)
+
 -- a source without a fault
 pub image_of : (source : List ℕ) → HasNoFault (layout_faults source) → HasNoFault (coding_faults source) → assembled source ≡ Image (source_base source) (entry_of (source_base source) (source_labels source)) (source_bytes source)
-image_of source laid coded =
-    laid_out source laid
-    ∙ ap (assembled_by_coding (source_base source) (source_labels source) (source_lines source)) (least_none (coding_faults source) (length (source_lines source)) coded)
+unfolding assembled
+image_of source laid coded = image_of_lines (source_base source) (source_lines source) laid coded
 
 -- the same, where the calls of the passes came to these
 at_base : (source : List ℕ) (entry : ℕ) (labels : List (List ℕ × ℕ)) (bytes : List ℕ) → labels ≡ source_labels source → HasNoFault (layout_faults source) → bytes ≡ bytes_of_lines labels (source_lines source) → HasNoFault (coding_fault labels (source_lines source)) → entry ≡ entry_of (source_base source) labels → assembled source ≡ Image (source_base source) entry bytes

@@ -68,10 +68,7 @@ fn is_misplaced(address: u64, item: &Item) -> bool
 {
     match item {
         Item::Aligned(None) => true,
-        Item::Aligned(Some(_))
-        | Item::Bytes(_)
-        | Item::Zeros(_)
-        | Item::Origin(_) => false,
+        Item::Aligned(Some(_)) | Item::Bytes(_) | Item::Zeros(_) | Item::Origin(_) => false,
         _ => address % 4 != 0,
     }
 }

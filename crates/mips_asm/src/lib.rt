@@ -9,7 +9,7 @@
 //! computes whole sources by the definitions alone.
 //!
 //! Reading order: what a line says, the statements and the tokens that they expect, what operands stand for, the reading
-//! of a line, the lines of a source, labels, addresses, bytes, the passes.
+//! of a line, the lines of a source, labels, addresses, bytes, the passes, printed text as a source.
 #![tactic(auto)]
 
 mod built;
@@ -20,12 +20,14 @@ mod layout;
 mod matching;
 mod operands;
 mod passes;
+mod printed;
 mod reading;
 mod sources;
 mod statements;
 
 pub use built::{AsmFault, Built};
 pub use passes::assemble;
+pub use printed::printed_text_assembles;
 
 #[cfg(test)]
 mod tests;
