@@ -5,7 +5,8 @@ use Rattle.std.proofs.lemmas.Bool.{and_parts}
 use Rattle.std.proofs.lemmas.List.Folds.{list_all-append}
 use Rattle.std.proofs.lemmas.List.Sums.{AllPass-from_list_all}
 use Rattle.std.proofs.lemmas.Grind.{common_steps}
-use Rattle.r4_words.specs.Texts.{dec_of}
+use Rattle.mips3_code.specs.Targets.{branch_target, jump_target}
+use Rattle.r4_words.specs.Texts.{dec_of, is_digit}
 use Rattle.mips3_table.specs.declared.instruction.Inst.{Inst}
 use Rattle.mips3_table.specs.Rows.{Row, rows, row_at}
 use Rattle.mips3_table.specs.Instructions.{IsInst}
@@ -13,11 +14,11 @@ use Rattle.mips3_table.proofs.Apart.{each_at, rows_count}
 use Rattle.mips3_code.specs.Coding.{encoded}
 use Rattle.mips_text.specs.declared.operand.Operand.{Operand}
 use Rattle.mips_text.specs.declared.operand.Operand.TheVariants.{Register, Cp0Register, Decimal, Hexadecimal, Signed, Based, BranchTarget, JumpTarget}
-use Rattle.mips_text.specs.Tokens.{is_digit, is_hex_digit}
+use Rattle.mips_text.specs.Tokens.{is_hex_digit}
 use Rattle.mips_text.specs.Names.{register_names, register_name, cp0_names, cp0_name}
 use Rattle.mips_text.specs.Values.{hex_digits_of, hex_text, signed_text}
 use Rattle.mips_text.specs.Forms.{operands_of}
-use Rattle.mips_text.specs.Printed.{field_of, branch_target, jump_target, based_text, operand_text, with_commas, after_name, by_form, text_of, OperandFits, AllFit}
+use Rattle.mips_text.specs.Printed.{field_of, based_text, operand_text, with_commas, after_name, by_form, text_of, OperandFits, AllFit}
 use Rattle.mips_text.proofs.Naming.{register_count, cp0_count}
 use Rattle.mips_text.proofs.DigitTexts.{all_decimal, all_hexadecimal}
 use Rattle.mips_text.proofs.FormOperands.{fit_form}
