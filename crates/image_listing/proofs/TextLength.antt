@@ -3,6 +3,7 @@ use Rattle.std.proofs.Common.{◌≡◌, ◌<◌, ◌≤◌, ◌+◌, ◌-◌, �
 use Rattle.std.specs.Prelude.{IfSome}
 use Rattle.std.specs.List.{list_all}
 use Rattle.std.proofs.lemmas.Bool.{leb-true, and_parts}
+use Rattle.mips3_code.specs.Targets.{branch_target, jump_target}
 use Rattle.r4_words.specs.Texts.{dec_of}
 use Rattle.r4_words.proofs.Written.{length_dec_of}
 use Rattle.mips3_table.specs.declared.instruction.Inst.{Inst}
@@ -15,8 +16,12 @@ use Rattle.mips3_code.specs.Coding.{decoded, encoded}
 use Rattle.mips3_code.proofs.RoundTrip.{decoded_in_range}
 use Rattle.mips_text.specs.Names.{register_names, register_name, cp0_names, cp0_name}
 use Rattle.mips_text.specs.Values.{hex_digits_of, hex_text, signed_text}
-use Rattle.mips_text.specs.Forms.{Field, Rs, Rt, Rd, Sa, Imm, Operand, Register, Cp0Register, Decimal, Hexadecimal, Signed, Based, BranchTarget, JumpTarget, operands_of}
-use Rattle.mips_text.specs.Printed.{field_of, branch_target, jump_target, based_text, operand_text, operand_texts, with_commas, after_name, by_form, text_of, decoded_text, word_text}
+use Rattle.mips_text.specs.declared.operand.Field.{Field}
+use Rattle.mips_text.specs.declared.operand.Field.TheVariants.{Rs, Rt, Rd, Sa, Imm}
+use Rattle.mips_text.specs.declared.operand.Operand.{Operand}
+use Rattle.mips_text.specs.declared.operand.Operand.TheVariants.{Register, Cp0Register, Decimal, Hexadecimal, Signed, Based, BranchTarget, JumpTarget}
+use Rattle.mips_text.specs.Forms.{operands_of}
+use Rattle.mips_text.specs.Printed.{field_of, based_text, operand_text, operand_texts, with_commas, after_name, by_form, text_of, decoded_text, word_text}
 use Rattle.mips_text.proofs.Digits.{length_hex_digits_of}
 use Rattle.mips_text.proofs.RowNames.{length_name}
 

@@ -1,9 +1,15 @@
 mod Examples
 pub mod LabelList
 pub mod Bounds
-pub mod SlotList
+pub mod NumberList
 pub mod InstRows
 pub mod LineList
-pub mod RowNames
-pub mod PassList
+pub mod Bases
 pub mod Sizes
+pub mod Faults
+pub mod Laid
+pub mod Filled
+pub mod Outcomes
+pub mod OneLine
+pub mod OrgLine
+pub mod PrintedSource

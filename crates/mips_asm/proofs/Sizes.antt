@@ -1,75 +1,72 @@
--- An image has no more bytes than the first pass allows.
-use Rattle.std.proofs.Common.{◌≡◌, ◌+◌, ◌-◌, ◌≤◌, ◌||◌, ℕ, Bool, true, false, List, [], ◌∷◌, ◌++◌, Option, Some, None, length, cond, ap, sym, ◌∙◌, arith, nat_lt, length-append, refl}
-use Rattle.std.proofs.lemmas.Grind.{common_steps}
+-- A statement has as many bytes as its size says.
+use Rattle.std.proofs.Common.{◌≡◌, ◌-◌, ◌*◌, ◌%◌, ◌^◌, ℕ, Bool, true, false, List, [], ◌∷◌, Option, Some, None, length, cond, refl, sym, arith, subst}
+use Rattle.std.proofs.lemmas.List.{length-replicate}
+use Rattle.flat_ram.specs.Bytes.{bytes_of, zeros_of}
+use Rattle.mips3_code.specs.Coding.{encoded}
+use Rattle.mips3_table.specs.declared.instruction.Inst.{Inst}
 use Rattle.mips_text.specs.declared.reason.AsmWhy.{AsmWhy}
 use Rattle.mips_text.specs.declared.reason.AsmWhy.TheVariants as why
-use Rattle.mips_text.specs.Line.{Line, Reading, Read, Refused, read_line}
-use Rattle.mips_asm.specs.Layout.{Place, size_of, place_after, fault_at, moves_wrongly, stands_twice, breaks_alignment, most_bytes}
-use Rattle.mips_text.specs.Coded.{Coded, Given, Lacking, coded_of}
-use Rattle.mips_asm.specs.Assembly.{Laid, Stopped, first_pass, SecondPass, Filled, Missing, with_bytes, fill_line, item_read, second_pass}
-use Rattle.mips_asm.specs.PassesOf.{place_at}
-use Rattle.mips_asm.proofs.PassList.{first_pass_refused, first_pass_fault, first_pass_more, second_pass_nothing, one_filled, given_length}
+use Rattle.mips_text.specs.declared.item.Item.{Item}
+use Rattle.mips_text.specs.declared.item.Item.TheVariants.{Plain, BranchTo, JumpTo, LoadNumber, LoadLabel, Words, Bytes, Zeros, Origin, Aligned}
+use Rattle.mips_text.specs.Line.{Reading, Read, Refused}
+use Rattle.mips_text.specs.Coded.{padding_to, label_at, Coded, Given, Lacking, address_of, where_known, word_with, branch_to, jump_to, distance_to, word_number, loading, bytes_of_words, coded_at, coded_of}
+use Rattle.mips_asm.specs.Layout.{size_at, size_of, size_read, placed_at}
+use Rattle.mips_asm.specs.Assembly.{coded_line}
 
-bytes_in : SecondPass → List ℕ
-bytes_in (Filled bytes) = bytes
-bytes_in (Missing number reason) = []
+abbrev pub HasLength : Coded → ℕ → Type 0
+HasLength (Given bytes) size = length bytes ≡ size
+HasLength (Lacking reason) size = Unit {0}
 
-same_bytes : (one other : List ℕ) → Filled one ≡ Filled other → length one ≡ length other
-unfolding bytes_in
-same_bytes one other same = ap (λ pass. length (bytes_in pass)) same
+where_known_length : (found : Option ℕ) (coded : ℕ → Coded) (size : ℕ) → ((address : ℕ) → HasLength (coded address) size) → HasLength (where_known found coded) size
+where_known_length (Some address) coded size each = each address
+where_known_length None coded size each = tt
 
-never_laid : (number : ℕ) (reason : AsmWhy) (labels : List (List ℕ × ℕ)) → Stopped number reason ≡ Laid labels → ⊥
-never_laid number reason labels same = absurd (cc)
+word_length : (inst : Inst) (number : Option ℕ) → HasLength (word_with inst number) 4
+word_length inst (Some number) = refl
+word_length inst None = tt
 
-never_filled : (number : ℕ) (reason : AsmWhy) (bytes : List ℕ) → Missing number reason ≡ Filled bytes → ⊥
-never_filled number reason bytes same = absurd (cc)
+branch_length : (inst : Inst) (at target : ℕ) → HasLength (branch_to inst at target) 4
+unfolding branch_to
+branch_length inst at target = word_length inst (distance_to at target)
 
-not_large : (wrong large : Bool) (later : Option AsmWhy) → cond (wrong || large) (Some why.Range) later ≡ None → large ≡ false
-not_large true large later none = absurd (cc)
-not_large false true later none = absurd (cc)
-not_large false false later none = refl
+jump_length : (inst : Inst) (at target : ℕ) → HasLength (jump_to inst at target) 4
+unfolding jump_to
+jump_length inst at target = word_length inst (word_number at target)
 
-at_most : (most n : ℕ) → nat_lt most n ≡ false → n ≤ most
-at_most most n is = grind (arith, common_steps)
+loading_length : (register number : ℕ) → length (loading register number) ≡ 8
+unfolding loading
+loading_length register number = refl
 
--- a line without a fault leaves no more bytes than an image may have
-room_left : (base : ℕ) (place : Place) (said : Line) → fault_at base place said ≡ None → place.address + size_of place.address said.item - base ≤ 8388608
-unfolding fault_at
-room_left base place said none =
-    at_most most_bytes (place.address + size_of place.address said.item - base)
-    (not_large (moves_wrongly base place.address said.item) (nat_lt most_bytes (place.address + size_of place.address said.item - base))
-    (cond (stands_twice place.labels said.label) (Some why.Twice) (cond (breaks_alignment place.address said) (Some why.Align) None)) none)
+zeros_length : (count : ℕ) → length (zeros_of count) ≡ count
+unfolding zeros_of
+zeros_length count = length-replicate count 0
 
-small_image : (known all : List (List ℕ × ℕ)) (base number : ℕ) (place : Place) (lines : List (List ℕ)) (bytes : List ℕ) → base ≤ place.address → place.address ≤ base + 8388608 → first_pass base number place lines ≡ Laid all → second_pass known number place.address lines ≡ Filled bytes → place.address + length bytes ≤ base + 8388608
-small_image known all base number place [] bytes after near laid filled =
-    let none : 0 ≡ length bytes = same_bytes [] bytes (sym (second_pass_nothing known number place.address) ∙ filled) in
-    omega arith
-small_image known all base number place (line ∷ lines) bytes after near laid filled = by_reading (λ next rest. small_image known all base (number + 1) next lines rest) (read_line line) refl
-  where
-    by_pass : ((next : Place) (rest : List ℕ) → base ≤ next.address → next.address ≤ base + 8388608 → first_pass base (number + 1) next lines ≡ Laid all → second_pass known (number + 1) next.address lines ≡ Filled rest → next.address + length rest ≤ base + 8388608) → (said : Line) → read_line line ≡ Read said → fault_at base place said ≡ None → (coded : Coded) → coded_of known place.address (item_read (read_line line)) ≡ coded → (later : SecondPass) → second_pass known (number + 1) (place.address + size_of place.address (item_read (read_line line))) lines ≡ later → place.address + length bytes ≤ base + 8388608
-    by_pass hyp said is holds (Lacking reason) e later f =
-        absurd (never_filled number reason bytes (sym (one_filled known number place.address line lines ∙ ap (λ coded. fill_line number coded (second_pass known (number + 1) (place.address + size_of place.address (item_read (read_line line))) lines)) e) ∙ filled))
-    by_pass hyp said is holds (Given more) e (Missing at reason) f =
-        absurd (never_filled at reason bytes (sym (one_filled known number place.address line lines ∙ ap (λ coded. fill_line number coded (second_pass known (number + 1) (place.address + size_of place.address (item_read (read_line line))) lines)) e ∙ ap (with_bytes more) f) ∙ filled))
-    by_pass hyp said is holds (Given more) e (Filled rest) f =
-        let whole : length (more ++ rest) ≡ length bytes = same_bytes (more ++ rest) bytes (sym (one_filled known number place.address line lines ∙ ap (λ coded. fill_line number coded (second_pass known (number + 1) (place.address + size_of place.address (item_read (read_line line))) lines)) e ∙ ap (with_bytes more) f) ∙ filled) in
-        let split : length (more ++ rest) ≡ length more + length rest = length-append more rest in
-        let size : size_of place.address said.item ≡ length more = ap (λ reading. size_of place.address (item_read reading)) (sym is) ∙ given_length known place.address (item_read (read_line line)) more e in
-        let room : place.address + size_of place.address said.item - base ≤ 8388608 = room_left base place said holds in
-        let next : second_pass known (number + 1) (place.address + size_of place.address said.item) lines ≡ Filled rest = ap (λ reading. second_pass known (number + 1) (place.address + size_of place.address (item_read reading)) lines) (sym is) ∙ f in
-        let whole_rest : place.address + size_of place.address said.item + length rest ≤ base + 8388608 =
-        hyp (place_after place said) rest (omega arith) (omega arith) (sym (first_pass_more base number place line lines said is holds) ∙ laid) next in
-        omega arith
+words_length : (words : List ℕ) → length (bytes_of_words words) ≡ 4 * length words
+words_length [] = refl
+words_length (word ∷ words) = let hyp : length (bytes_of_words words) ≡ 4 * length words = words_length words in omega arith
 
-    by_fault : ((next : Place) (rest : List ℕ) → base ≤ next.address → next.address ≤ base + 8388608 → first_pass base (number + 1) next lines ≡ Laid all → second_pass known (number + 1) next.address lines ≡ Filled rest → next.address + length rest ≤ base + 8388608) → (said : Line) → read_line line ≡ Read said → (fault : Option AsmWhy) → fault_at base place said ≡ fault → place.address + length bytes ≤ base + 8388608
-    by_fault hyp said is (Some reason) holds = absurd (never_laid number reason all (sym (first_pass_fault base number place line lines said reason is holds) ∙ laid))
-    by_fault hyp said is None holds = by_pass hyp said is holds (coded_of known place.address (item_read (read_line line))) refl (second_pass known (number + 1) (place.address + size_of place.address (item_read (read_line line))) lines) refl
+-- a statement puts as many bytes as its size says
+item_length : (labels : List (List ℕ × ℕ)) (address : ℕ) (item : Item) → HasLength (coded_at labels address item) (size_at address item)
+unfolding coded_at size_at
+item_length labels address (Plain inst) = refl
+item_length labels address (BranchTo inst target) = where_known_length (address_of labels target) (branch_to inst (address % 2 ^ 32)) 4 (branch_length inst (address % 2 ^ 32))
+item_length labels address (JumpTo inst target) = where_known_length (address_of labels target) (jump_to inst (address % 2 ^ 32)) 4 (jump_length inst (address % 2 ^ 32))
+item_length labels address (LoadNumber register number) = loading_length register number
+item_length labels address (LoadLabel register name) = where_known_length (label_at labels name) (λ number. Given (loading register number)) 8 (loading_length register)
+item_length labels address (Words words) = words_length words
+item_length labels address (Bytes bytes) = refl
+item_length labels address (Zeros count) = zeros_length count
+item_length labels address (Origin origin) = zeros_length (origin - address)
+item_length labels address (Aligned power) = zeros_length (padding_to power address)
 
-    by_reading : ((next : Place) (rest : List ℕ) → base ≤ next.address → next.address ≤ base + 8388608 → first_pass base (number + 1) next lines ≡ Laid all → second_pass known (number + 1) next.address lines ≡ Filled rest → next.address + length rest ≤ base + 8388608) → (reading : Reading) → read_line line ≡ reading → place.address + length bytes ≤ base + 8388608
-    by_reading hyp (Refused reason) is = absurd (never_laid number reason all (sym (first_pass_refused base number place line lines reason is) ∙ laid))
-    by_reading hyp (Read said) is = by_fault hyp said is (fault_at base place said) refl
+line_length : (labels : List (List ℕ × ℕ)) (address : ℕ) (item : Option Item) → HasLength (coded_of labels address item) (size_of address item)
+line_length labels address (Some item) = item_length labels address item
+line_length labels address None = refl
 
-pub image_size : (base : ℕ) (lines : List (List ℕ)) (labels : List (List ℕ × ℕ)) (bytes : List ℕ) → first_pass base 1 (place_at base []) lines ≡ Laid labels → second_pass labels 1 base lines ≡ Filled bytes → length bytes ≤ 8388608
-image_size base lines labels bytes laid filled =
-    let all : base + length bytes ≤ base + 8388608 = small_image labels labels base 1 (place_at base []) lines bytes (omega arith) (omega arith) laid filled in
-    omega arith
+pub given_length : (labels : List (List ℕ × ℕ)) (address : ℕ) (item : Option Item) (bytes : List ℕ) → coded_of labels address item ≡ Given bytes → size_of address item ≡ length bytes
+given_length labels address item bytes is = sym (subst (λ coded. HasLength coded (size_of address item)) is (line_length labels address item))
+
+-- so does a line
+pub line_given : (labels : List (List ℕ × ℕ)) (address : ℕ) (reading : Reading) (bytes : List ℕ) → coded_line labels (placed_at address reading) ≡ Given bytes → length bytes ≡ size_read address reading
+line_given labels address (Read line) bytes is = sym (given_length labels address line.item bytes is)
+line_given labels address (Refused reason) bytes is = subst (λ coded. HasLength coded 0) is refl

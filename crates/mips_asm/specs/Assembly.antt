@@ -1,13 +1,17 @@
 -- What a source is assembled to: the base, the entry and the bytes of an image, or the first line that is refused.
--- A first pass gives each line its address and the labels theirs; where it refuses none, a second pass gives each line
--- its bytes.
+-- A line may have a fault of two kinds. It has one of the first kind where it can not be read, or can not stand at its
+-- address (Layout.antt); and one of the second kind where it has no bytes, with all labels known: a label that it names
+-- is none, or its branch or jump can not reach. A source is refused at the first line that has a fault of the first
+-- kind, else at the first that has one of the second kind; else its bytes are those of its lines in a row.
 -- Source: the assembler language of this project. What one line says and which bytes its statement puts is defined in
 -- mips_text, specs/Line.antt and specs/Coded.antt.
-use Rattle.std.specs.Prelude.{ℕ, ◌+◌, List, [], ◌∷◌, ◌++◌, Option, Some, None, codes, unwrap_or}
+use Rattle.std.specs.Prelude.{◌≡◌, ℕ, zero, suc, ◌+◌, ◌<◌, ◌⊎◌, List, [], length, slice_get, Option, Some, None, option_and_then, codes, unwrap_or}
+use Rattle.std.specs.List.{flat_map}
 use Rattle.mips_text.specs.declared.reason.AsmWhy.{AsmWhy}
-use Rattle.mips_text.specs.Line.{Item, Reading, Read, Refused, read_line}
+use Rattle.mips_text.specs.declared.item.Item.{Item}
+use Rattle.mips_text.specs.Line.{Reading, Read, Refused}
 use Rattle.mips_text.specs.Coded.{Coded, Given, Lacking, coded_of, label_at}
-use Rattle.mips_asm.specs.Layout.{Place, lines_of, base_of, size_of, place_after, fault_at}
+use Rattle.mips_asm.specs.Layout.{Placed, placed_all, readings_of, base_of, labels_of, layout_fault}
 
 -- What a source is assembled to.
 pub data Assembly : Type 0 where
@@ -16,74 +20,123 @@ pub data Assembly : Type 0 where
   -- the number of the first line that is refused, from 1, and the reason
   Bad : ℕ → AsmWhy → Assembly
 
--- THE TWO PASSES
+-- THE BYTES OF A LINE
 
--- What the first pass comes to: all labels, or the first line that is refused.
-pub data FirstPass : Type 0 where
-  Laid : List (List ℕ × ℕ) → FirstPass
-  Stopped : ℕ → AsmWhy → FirstPass
-
--- the pass goes on after a line that can stand at its place
-abbrev pub pass_on : ℕ → Option AsmWhy → FirstPass → FirstPass
-pass_on number (Some reason) later = Stopped number reason
-pass_on number None later = later
-
--- a line at its place, and what the pass comes to after it
-abbrev pub pass_line : ℕ → ℕ → Place → Reading → (Place → FirstPass) → FirstPass
-pass_line base number place (Refused reason) later = Stopped number reason
-pass_line base number place (Read line) later = pass_on number (fault_at base place line) (later (place_after place line))
-
--- the pass over the lines from this one on, which has this number and stands at this place
-unfoldable pub first_pass : ℕ → ℕ → Place → List (List ℕ) → FirstPass
-first_pass base number place [] = Laid place.labels
-first_pass base number place (line ∷ lines) =
-    pass_line base number place (read_line line) (λ after. first_pass base (number + 1) after lines)
-
--- What the second pass comes to: all bytes, or the first line that is refused.
-pub data SecondPass : Type 0 where
-  Filled : List ℕ → SecondPass
-  Missing : ℕ → AsmWhy → SecondPass
-
--- bytes before those of the later lines
-abbrev pub with_bytes : List ℕ → SecondPass → SecondPass
-with_bytes bytes (Filled later) = Filled (bytes ++ later)
-with_bytes bytes (Missing number reason) = Missing number reason
-
--- the bytes of a line, and what the pass comes to after it
-abbrev pub fill_line : ℕ → Coded → SecondPass → SecondPass
-fill_line number (Given bytes) later = with_bytes bytes later
-fill_line number (Lacking reason) later = Missing number reason
-
--- what a line of a source that was laid says
+-- what a line says, if it can be read
 abbrev pub item_read : Reading → Option Item
 item_read (Read line) = line.item
 item_read (Refused reason) = None
 
--- the pass over the lines from this one on, which has this number and stands at this address
-unfoldable pub second_pass : List (List ℕ × ℕ) → ℕ → ℕ → List (List ℕ) → SecondPass
-second_pass labels number address [] = Filled []
-second_pass labels number address (line ∷ lines) =
-    fill_line number (coded_of labels address (item_read (read_line line)))
-    (second_pass labels (number + 1) (address + size_of address (item_read (read_line line))) lines)
+-- what a line puts where it stands, with these labels
+abbrev pub coded_line : List (List ℕ × ℕ) → Placed → Coded
+coded_line labels line = coded_of labels line.address (item_read line.reading)
+
+-- the bytes that there are
+abbrev pub bytes_given : Coded → List ℕ
+bytes_given (Given bytes) = bytes
+bytes_given (Lacking reason) = []
+
+-- the reason for which there are none
+abbrev pub reason_lacking : Coded → Option AsmWhy
+reason_lacking (Given bytes) = None
+reason_lacking (Lacking reason) = Some reason
+
+-- The bytes of lines in a row.
+abbrev pub bytes_of_lines : List (List ℕ × ℕ) → List Placed → List ℕ
+bytes_of_lines labels lines = flat_map (λ line. bytes_given (coded_line labels line)) lines
+
+-- The reason for which the line that has n lines before it has no bytes, with these labels. None where it has bytes, or
+-- where there is no such line.
+unfoldable pub coding_fault : List (List ℕ × ℕ) → List Placed → ℕ → Option AsmWhy
+coding_fault labels lines n = option_and_then (λ line. reason_lacking (coded_line labels line)) (slice_get lines n)
 
 -- the entry is the label `start`, else the base
 abbrev pub entry_of : ℕ → List (List ℕ × ℕ) → ℕ
 entry_of base labels = unwrap_or (label_at labels (codes "start")) base
 
--- the image of a source that was laid, by its second pass
-abbrev pub image_of : ℕ → List (List ℕ × ℕ) → SecondPass → Assembly
-image_of base labels (Filled bytes) = Image base (entry_of base labels) bytes
-image_of base labels (Missing number reason) = Bad number reason
+-- THE FIRST FAULT
 
--- the assembly of a source, by its first pass
-abbrev pub assembled_by : ℕ → List (List ℕ) → FirstPass → Assembly
-assembled_by base lines (Laid labels) = image_of base labels (second_pass labels 1 base lines)
-assembled_by base lines (Stopped number reason) = Bad number reason
+-- No line has a fault.
+abbrev pub HasNoFault : (ℕ → Option AsmWhy) → Type 0
+HasNoFault fault = (n : ℕ) → fault n ≡ None
 
--- the assembly of these lines from their base on
-abbrev pub assembled_from : ℕ → List (List ℕ) → Assembly
-assembled_from base lines = assembled_by base lines (first_pass base 1 (record { address = base; labels = [] }) lines)
+-- The line of this number, counted from 1, has this fault, and no line before it has any.
+pub record IsFirstFault (fault : ℕ → Option AsmWhy) (number : ℕ) (reason : AsmWhy) : Type 0 where
+  -- how many lines stand before it
+  pub before : ℕ
+  pub counted : number ≡ before + 1
+  pub has : fault before ≡ Some reason
+  pub none_before : (n : ℕ) → n < before → fault n ≡ None
+
+-- an entry, where there is none before it
+abbrev pub entry_after : Option (ℕ × AsmWhy) → ℕ → Option AsmWhy → Option (ℕ × AsmWhy)
+entry_after (Some first) n fault = Some first
+entry_after None n (Some reason) = Some (n, reason)
+entry_after None n None = None
+
+-- the least n below a count that has a fault, and the fault
+unfoldable pub least : (ℕ → Option AsmWhy) → ℕ → Option (ℕ × AsmWhy)
+least fault zero = None
+least fault (suc n) = entry_after (least fault n) n (fault n)
+
+-- THE ASSEMBLY
+
+-- of lines without a fault of the first kind, by the first line that has one of the second kind
+abbrev pub assembled_by_coding : ℕ → List (List ℕ × ℕ) → List Placed → Option (ℕ × AsmWhy) → Assembly
+assembled_by_coding base labels lines (Some bad) = Bad (bad.0 + 1) bad.1
+assembled_by_coding base labels lines None = Image base (entry_of base labels) (bytes_of_lines labels lines)
+
+-- of lines, by the first one that has a fault of the first kind
+abbrev pub assembled_by_layout : ℕ → List Placed → Option (ℕ × AsmWhy) → Assembly
+assembled_by_layout base lines (Some bad) = Bad (bad.0 + 1) bad.1
+assembled_by_layout base lines None =
+    assembled_by_coding base (labels_of lines) lines (least (coding_fault (labels_of lines) lines) (length lines))
+
+-- of all lines of a source
+abbrev pub assembled_all : ℕ → List Placed → Assembly
+assembled_all base lines = assembled_by_layout base lines (least (layout_fault base lines) (length lines))
+
+-- the same of the lines as they are read
+abbrev pub assembled_readings : List Reading → Assembly
+assembled_readings readings = assembled_all (base_of readings) (placed_all readings)
 
 -- The assembly of a source.
 unfoldable pub assembled : List ℕ → Assembly
-assembled source = assembled_from (base_of (lines_of source)) (lines_of source)
+assembled source = assembled_readings (readings_of source)
+
+-- THE SAME AS FACTS
+
+-- the base of a source
+abbrev pub source_base : List ℕ → ℕ
+source_base source = base_of (readings_of source)
+
+-- the lines of a source in their places
+abbrev pub source_lines : List ℕ → List Placed
+source_lines source = placed_all (readings_of source)
+
+-- the labels of a source
+abbrev pub source_labels : List ℕ → List (List ℕ × ℕ)
+source_labels source = labels_of (source_lines source)
+
+-- the bytes of a source
+abbrev pub source_bytes : List ℕ → List ℕ
+source_bytes source = bytes_of_lines (source_labels source) (source_lines source)
+
+-- the faults of the first kind that the lines of a source have
+abbrev pub layout_faults : List ℕ → ℕ → Option AsmWhy
+layout_faults source = layout_fault (source_base source) (source_lines source)
+
+-- the faults of the second kind that the lines of a source have
+abbrev pub coding_faults : List ℕ → ℕ → Option AsmWhy
+coding_faults source = coding_fault (source_labels source) (source_lines source)
+
+-- No line of a source has a fault.
+abbrev pub IsFaultless : List ℕ → Type 0
+IsFaultless source = HasNoFault (layout_faults source) × HasNoFault (coding_faults source)
+
+-- A source is refused at the line of this number for this reason: it is the first line that has a fault of the first
+-- kind, or no line has one and it is the first that has a fault of the second kind.
+abbrev pub IsRefusedAt : List ℕ → ℕ → AsmWhy → Type 0
+IsRefusedAt source number reason =
+    IsFirstFault (layout_faults source) number reason
+    ⊎ (HasNoFault (layout_faults source) × IsFirstFault (coding_faults source) number reason)

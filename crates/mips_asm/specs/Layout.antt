@@ -1,11 +1,18 @@
--- The layout of a source: its lines, its base, and the address of each line, with the first reason for which a line can
--- not stand at its address.
+-- The layout of a source: its lines as they are read, its base, the address of each line, its labels, and the first
+-- reason for which a line is refused where it stands.
 -- Source: the assembler language of this project. An image lies in kseg0 and kseg1, which the TLB does not map, and has
--- at most as many bytes as this machine's RAM (MIPS R4000 Microprocessor User's Manual, 2nd edition, Heinrich, chapter 4).
-use Rattle.std.specs.Prelude.{ℕ, ◌+◌, ◌-◌, ◌*◌, ◌%◌, ◌^◌, ◌==◌, nat_lt, nat_le, Bool, true, false, not, ◌&&◌, ◌||◌, if◌then◌else◌, List, [], ◌∷◌, ◌++◌, length, Option, Some, None, is_some, codes, bytes_eq}
+-- at most as many bytes as this machine's RAM (MIPS R4000 Microprocessor User's Manual, 2nd edition, Heinrich,
+-- chapter 4).
+use Rattle.std.specs.Prelude.{ℕ, ◌+◌, ◌-◌, ◌*◌, ◌%◌, ◌^◌, ◌==◌, nat_lt, Bool, true, false, not, ◌&&◌, ◌||◌, if◌then◌else◌, List, [], ◌∷◌, length, take, map, slice_get, Option, Some, None, is_some, option_map, option_and_then, codes, bytes_eq}
+use Rattle.std.specs.List.{filter_map}
+use Rattle.flat_ram.specs.Map.{ram_size}
+use Rattle.flat_ram.specs.Unmapped.{is_unmapped}
 use Rattle.mips_text.specs.declared.reason.AsmWhy.{AsmWhy}
 use Rattle.mips_text.specs.declared.reason.AsmWhy.TheVariants as why
-use Rattle.mips_text.specs.Line.{Item, Plain, BranchTo, JumpTo, LoadNumber, LoadLabel, Words, Bytes, Zeros, Origin, Aligned, Line, Reading, Read, Refused, read_line}
+use Rattle.mips_text.specs.declared.item.Item.{Item}
+use Rattle.mips_text.specs.declared.item.Item.TheVariants.{Plain, BranchTo, JumpTo, LoadNumber, LoadLabel, Words, Bytes, Zeros, Origin, Aligned}
+use Rattle.mips_text.specs.declared.item.Line.{Line}
+use Rattle.mips_text.specs.Line.{Reading, Read, Refused, read_line}
 use Rattle.mips_text.specs.Coded.{padding_to, label_at}
 
 -- a byte before the lines of what follows it
@@ -17,6 +24,10 @@ before_lines code (line ∷ lines) = (code ∷ line) ∷ lines
 abbrev pub lines_of : List ℕ → List (List ℕ)
 lines_of [] = []
 lines_of (code ∷ rest) = if code == 10 then [] ∷ lines_of rest else before_lines code (lines_of rest)
+
+-- the lines of a source, each as it is read
+abbrev pub readings_of : List ℕ → List Reading
+readings_of source = map read_line (lines_of source)
 
 -- THE BASE
 
@@ -43,10 +54,10 @@ abbrev pub base_by : Reading → ℕ → ℕ
 base_by (Read line) later = base_by_item line.item later
 base_by (Refused reason) later = later
 
--- The base of a source: the address of the first `.org` before any byte, else the usual one.
-unfoldable pub base_of : List (List ℕ) → ℕ
+-- The base of these lines: the address of the first `.org` before any byte, else the usual one.
+unfoldable pub base_of : List Reading → ℕ
 base_of [] = usual_base
-base_of (line ∷ lines) = base_by (read_line line) (base_of lines)
+base_of (reading ∷ readings) = base_by reading (base_of readings)
 
 -- ADDRESSES
 
@@ -68,44 +79,52 @@ abbrev pub size_of : ℕ → Option Item → ℕ
 size_of address None = 0
 size_of address (Some item) = size_at address item
 
+-- how many bytes a line puts; one that is refused puts none
+abbrev pub size_read : ℕ → Reading → ℕ
+size_read address (Read line) = size_of address line.item
+size_read address (Refused reason) = 0
+
+-- A line of a source, and the address at which it stands.
+pub record Placed : Type 0 where
+  pub address : ℕ
+  pub reading : Reading
+
+-- a line at an address
+abbrev pub placed_at : ℕ → Reading → Placed
+placed_at address reading = record { address = address; reading = reading }
+
+-- Lines one after another: the first stands at this address, and each further one where the bytes of the line before it
+-- end.
+abbrev pub placed : ℕ → List Reading → List Placed
+placed address [] = []
+placed address (reading ∷ readings) = placed_at address reading ∷ placed (address + size_read address reading) readings
+
+-- All lines of a source, each at its address: the base and the sizes of the lines before it.
+abbrev pub placed_all : List Reading → List Placed
+placed_all readings = placed (base_of readings) readings
+
 -- LABELS
 
--- where the next line stands, and the labels of the lines before, in their order
-pub record Place : Type 0 where
-  pub address : ℕ
-  pub labels : List (List ℕ × ℕ)
+-- the label of a line that stands at an address, if it has one, with that address as a number of 32 bits
+abbrev pub label_read : ℕ → Reading → Option (List ℕ × ℕ)
+label_read address (Read line) = option_map (λ name. (name, address % 2 ^ 32)) line.label
+label_read address (Refused reason) = None
 
--- the labels with one more, where a line has one
-abbrev pub with_label_at : Option (List ℕ) → ℕ → List (List ℕ × ℕ) → List (List ℕ × ℕ)
-with_label_at None address labels = labels
-with_label_at (Some name) address labels = labels ++ (name, address) ∷ []
-
--- the place after a line; an address is a number of 32 bits, and a place past them is one of no image
-abbrev pub place_after : Place → Line → Place
-place_after place line = record {
-  address = place.address + size_of place.address line.item;
-  labels = with_label_at line.label (place.address % 2 ^ 32) place.labels;
-}
+-- The labels of lines in their order, each with its line's address.
+abbrev pub labels_of : List Placed → List (List ℕ × ℕ)
+labels_of lines = filter_map (λ (line : Placed). label_read line.address line.reading) lines
 
 -- REASONS
-
--- an image has at most this many bytes
-abbrev pub most_bytes : ℕ
-most_bytes = 8388608
-
--- an address of kseg0 or kseg1
-abbrev pub is_unmapped : ℕ → Bool
-is_unmapped address = nat_le 0x80000000 address && nat_lt address 0xc0000000
 
 -- an `.org` moves back, or the base that it gives is no unmapped address
 abbrev pub moves_wrongly : ℕ → ℕ → Option Item → Bool
 moves_wrongly base address (Some (Origin origin)) = nat_lt origin address || not (is_unmapped base)
 moves_wrongly base address item = false
 
--- a line moves wrongly, or ends more bytes after the base than an image may have
+-- a line moves wrongly, or ends more bytes after the base than RAM has
 abbrev pub breaks_range : ℕ → ℕ → Line → Bool
 breaks_range base address line =
-    moves_wrongly base address line.item || nat_lt most_bytes (address + size_of address line.item - base)
+    moves_wrongly base address line.item || nat_lt ram_size (address + size_of address line.item - base)
 
 -- a label stands a second time
 abbrev pub stands_twice : List (List ℕ × ℕ) → Option (List ℕ) → Bool
@@ -139,10 +158,22 @@ is_start None = false
 abbrev pub breaks_alignment : ℕ → Line → Bool
 breaks_alignment address line = item_is_misplaced address line.item || (is_start line.label && not (address % 4 == 0))
 
--- the first reason for which a line can not stand at a place
-unfoldable pub fault_at : ℕ → Place → Line → Option AsmWhy
-fault_at base place line =
-    if breaks_range base place.address line then Some why.Range
-    else if stands_twice place.labels line.label then Some why.Twice
-    else if breaks_alignment place.address line then Some why.Align
+-- the first reason for which a line can not stand at an address, after lines with these labels
+unfoldable pub fault_at : ℕ → ℕ → List (List ℕ × ℕ) → Line → Option AsmWhy
+fault_at base address labels line =
+    if breaks_range base address line then Some why.Range
+    else if stands_twice labels line.label then Some why.Twice
+    else if breaks_alignment address line then Some why.Align
     else None
+
+-- the same of a line as it is read; one that can not be read is refused for that reason
+abbrev pub fault_read : ℕ → ℕ → List (List ℕ × ℕ) → Reading → Option AsmWhy
+fault_read base address labels (Refused reason) = Some reason
+fault_read base address labels (Read line) = fault_at base address labels line
+
+-- The first reason for which the line that has n lines before it is refused where it stands, by the labels of those
+-- lines. None where there is no such reason, or no such line.
+unfoldable pub layout_fault : ℕ → List Placed → ℕ → Option AsmWhy
+layout_fault base lines n =
+    let labels : List (List ℕ × ℕ) = labels_of (take n lines) in
+    option_and_then (λ (line : Placed). fault_read base line.address labels line.reading) (slice_get lines n)

@@ -1,5 +1,6 @@
 pub mod Layout
 pub mod Assembly
+pub mod PrintedSource
 pub mod Shown
 pub mod LabelsOf
 pub mod PassesOf

@@ -1,20 +1,17 @@
 //! The bytes of statements.
 
-ghost use Rattle.std.specs.Prelude.{◌≡◌, ℕ, List, ◌<◌, ◌+◌, ◌^◌, ◌++◌, [], OnOk, unwrap_or};
+ghost use Rattle.std.specs.Prelude.{◌≡◌, ℕ, List, ◌<◌, ◌+◌, ◌%◌, ◌^◌, ◌++◌, [], OnOk, unwrap_or};
 ghost use Rattle.flat_ram.specs.Bytes.{bytes_of, zeros_of};
 ghost use Rattle.mips3_table.specs.Instructions.{IsInst};
 ghost use Rattle.mips_text.specs.Coded as law;
-ghost use Rattle.mips_text.specs.Printed as printed;
-ghost use Rattle.mips_text.specs.Values.{bytes_of_text};
 ghost use Rattle.mips_text.specs.Coded.{label_at};
-ghost use Rattle.mips_asm.specs.Shown.{IsAppended, IsCoded, IsSound, NeedsNoLabel, item_shown, target_shown, word_shown};
+ghost use Rattle.mips_asm.specs.Shown.{IsAppended, IsCoded, IsSound, NeedsNoLabel, word_shown};
 
-use crate::items::{Goal, Item};
 use crate::labels::Labels;
 use crate::layout::padding;
 use crate::operands::bare;
-use mips_text::{AsmWhy, push_text, text_size};
-use mips3_code::encode;
+use mips_text::{AsmWhy, Item, Target};
+use mips3_code::{branch_distance, encode, jump_number};
 use mips3_table::Inst;
 use std::alloc::AllocError;
 
@@ -59,79 +56,25 @@ fn put_zeros(count: usize, bytes: &mut Vec<u8>) -> Result<(), AllocError>
     Ok(())
 }
 
-/// The number of 16 bits by which a branch at an address goes to a target, if it can.
-#[tactic(auto, unfolding(mips_text::specs::Coded::distance_to))]
-fn distance_to(at: u64, target: u32) -> u32
-    requires { at < 2 ^ 63 + 2 ^ 33 }
-    ensures value { result ≡ law.distance_to at target }
-    ensures small { result < 2 ^ 16 }
-{
-    let slot = (at + 4) % 0x100000000;
-    let apart = (u64::from(target) + 0x100000000 - slot) % 0x100000000;
-    (apart / 4 % 0x10000) as u32
-}
-
-/// The number of 26 bits by which a jump goes to a target, if it can.
-#[tactic(auto, unfolding(mips_text::specs::Coded::word_number))]
-fn word_number(target: u32) -> u32
-    ensures value { result ≡ law.word_number target }
-    ensures small { result < 2 ^ 26 }
-{
-    target % 0x10000000 / 4
-}
-
-/// Where a branch at an address goes by its number.
-#[tactic(auto, unfolding(mips_text::specs::Printed::branch_target))]
-fn branch_target(at: u64, distance: u32) -> u32
-    requires far { at < 2 ^ 63 + 2 ^ 33 }
-    requires small { distance < 2 ^ 16 }
-    ensures { result ≡ printed.branch_target at distance }
-{
-    let words = if distance < 0x8000 {
-        u64::from(distance)
-    } else {
-        u64::from(distance) + 0xffff0000
-    };
-    ((at + 4 + 4 * words) % 0x100000000) as u32
-}
-
-/// Where a jump at an address goes by its number.
-#[tactic(auto, unfolding(mips_text::specs::Printed::jump_target))]
-fn jump_target(at: u64, number: u32) -> u32
-    requires far { at < 2 ^ 63 + 2 ^ 33 }
-    requires small { number < 2 ^ 26 }
-    ensures { result ≡ printed.jump_target at number }
-{
-    ((at + 4) % 0x100000000 / 0x10000000 * 0x10000000) as u32 + 4 * number
-}
-
 /// The word of a branch at an address to a target that it reaches.
-#[tactic(auto, unfolding(mips_text::specs::Coded::branch_to))]
-fn branch_to(inst: &Inst, at: u64, target: u32) -> Option<u32>
-    requires far { at < 2 ^ 63 + 2 ^ 33 }
-    requires sound { (number : ℕ) → number < 2 ^ 16 → IsInst (record inst.now { imm = number }) }
+fn branch_word(inst: &Inst, at: u32, target: u32) -> Option<u32>
+    requires { (number : ℕ) → number < 2 ^ 16 → IsInst (record inst.now { imm = number }) }
     ensures { word_shown result ≡ law.branch_to inst.now at target }
 {
-    let imm = distance_to(at, target);
-    if branch_target(at, imm) == target {
-        Some(encode(&Inst { imm, ..*inst }))
-    } else {
-        None
+    match branch_distance(at, target) {
+        Some(imm) => Some(encode(&Inst { imm, ..*inst })),
+        None => None,
     }
 }
 
 /// The word of a jump at an address to a target that it reaches.
-#[tactic(auto, unfolding(mips_text::specs::Coded::jump_to))]
-fn jump_to(inst: &Inst, at: u64, target: u32) -> Option<u32>
-    requires far { at < 2 ^ 63 + 2 ^ 33 }
-    requires sound { (number : ℕ) → number < 2 ^ 26 → IsInst (record inst.now { imm = number }) }
+fn jump_word(inst: &Inst, at: u32, target: u32) -> Option<u32>
+    requires { (number : ℕ) → number < 2 ^ 26 → IsInst (record inst.now { imm = number }) }
     ensures { word_shown result ≡ law.jump_to inst.now at target }
 {
-    let imm = word_number(target);
-    if jump_target(at, imm) == target {
-        Some(encode(&Inst { imm, ..*inst }))
-    } else {
-        None
+    match jump_number(at, target) {
+        Some(imm) => Some(encode(&Inst { imm, ..*inst })),
+        None => None,
     }
 }
 
@@ -167,31 +110,30 @@ fn put_words(words: &[u32], bytes: &mut Vec<u8>) -> Result<(), AllocError>
 }
 
 /// The address of a target.
-fn address_of(labels: &Labels, goal: Goal) -> Option<u32>
-    ensures { result ≡ law.address_of labels.now (target_shown goal.entry) }
+fn address_of(labels: &Labels, target: &Target) -> Option<u32>
+    ensures { result ≡ law.address_of labels.now target.now }
 {
-    match goal {
-        Goal::Address(address) => Some(address),
-        Goal::Label(name) => labels.address_of(name),
+    match target {
+        Target::Address(address) => Some(*address),
+        Target::Label(name) => labels.address_of(name.text()),
     }
 }
 
 /// Appends a branch.
 fn put_branch(
     labels: &Labels,
-    at: u64,
+    at: u32,
     inst: &Inst,
-    goal: Goal,
+    target: &Target,
     bytes: &mut Vec<u8>,
 ) -> Result<(), Stop>
-    requires far { at < 2 ^ 63 + 2 ^ 33 }
-    requires sound { (number : ℕ) → number < 2 ^ 16 → IsInst (record inst.now { imm = number }) }
-    ensures { IsCoded (law.where_known (law.address_of labels.now (target_shown goal.entry)) (law.branch_to inst.now at)) result bytes.old.items bytes.new.items }
+    requires { (number : ℕ) → number < 2 ^ 16 → IsInst (record inst.now { imm = number }) }
+    ensures { IsCoded (law.where_known (law.address_of labels.now target.now) (law.branch_to inst.now at)) result bytes.old.items bytes.new.items }
 {
-    let Some(target) = address_of(labels, goal) else {
+    let Some(address) = address_of(labels, target) else {
         return Err(Stop::Lacks(AsmWhy::NoLabel));
     };
-    let Some(word) = branch_to(inst, at, target) else {
+    let Some(word) = branch_word(inst, at, address) else {
         return Err(Stop::Lacks(AsmWhy::Range));
     };
     put_word(word, bytes)?;
@@ -201,19 +143,18 @@ fn put_branch(
 /// Appends a jump.
 fn put_jump(
     labels: &Labels,
-    at: u64,
+    at: u32,
     inst: &Inst,
-    goal: Goal,
+    target: &Target,
     bytes: &mut Vec<u8>,
 ) -> Result<(), Stop>
-    requires far { at < 2 ^ 63 + 2 ^ 33 }
-    requires sound { (number : ℕ) → number < 2 ^ 26 → IsInst (record inst.now { imm = number }) }
-    ensures { IsCoded (law.where_known (law.address_of labels.now (target_shown goal.entry)) (law.jump_to inst.now at)) result bytes.old.items bytes.new.items }
+    requires { (number : ℕ) → number < 2 ^ 26 → IsInst (record inst.now { imm = number }) }
+    ensures { IsCoded (law.where_known (law.address_of labels.now target.now) (law.jump_to inst.now at)) result bytes.old.items bytes.new.items }
 {
-    let Some(target) = address_of(labels, goal) else {
+    let Some(address) = address_of(labels, target) else {
         return Err(Stop::Lacks(AsmWhy::NoLabel));
     };
-    let Some(word) = jump_to(inst, at, target) else {
+    let Some(word) = jump_word(inst, at, address) else {
         return Err(Stop::Lacks(AsmWhy::Range));
     };
     put_word(word, bytes)?;
@@ -237,30 +178,18 @@ fn put_label_loading(
     Ok(())
 }
 
-/// Appends the bytes of a text.
-#[tactic(auto, using(crate::proofs::LabelList::text_given))]
-fn put_text(text: &[u8], bytes: &mut Vec<u8>) -> Result<(), AllocError>
-    ensures { OnOk result (bytes.new.items ≡ bytes.old.items ++ unwrap_or (bytes_of_text text.now) []) }
-{
-    if text_size(text).is_none() {
-        return Ok(());
-    }
-    push_text(text, bytes)
-}
-
 /// Appends what needs no label.
 #[tactic(auto, unfolding(mips_text::specs::Coded::coded_at))]
 fn put_plain(at: u64, item: &Item, bytes: &mut Vec<u8>) -> Result<(), AllocError>
     requires sound { IsSound item.now }
     requires plain { NeedsNoLabel item.now }
-    ensures { (labels : List (List ℕ × ℕ)) → OnOk result (IsAppended (law.coded_at labels at (item_shown item.now)) bytes.old.items bytes.new.items) }
+    ensures { (labels : List (List ℕ × ℕ)) → OnOk result (IsAppended (law.coded_at labels at item.now) bytes.old.items bytes.new.items) }
 {
     match item {
         Item::Plain(inst) => put_word(encode(inst), bytes),
         Item::LoadNumber(register, number) => put_loading(*register, *number, bytes),
-        Item::Words(words) => put_words(words, bytes),
-        Item::Bytes(list) => bytes.extend_from_slice(list),
-        Item::Text(text) => put_text(text, bytes),
+        Item::Words(words) => put_words(words.list(), bytes),
+        Item::Bytes(list) => list.push_to(bytes),
         Item::Zeros(count) => put_zeros(*count as usize, bytes),
         Item::Origin(origin) => put_zeros(u64::from(*origin).saturating_sub(at) as usize, bytes),
         Item::Aligned(Some(power)) => put_zeros(padding(*power, at) as usize, bytes),
@@ -269,17 +198,23 @@ fn put_plain(at: u64, item: &Item, bytes: &mut Vec<u8>) -> Result<(), AllocError
     }
 }
 
+/// The address of 32 bits that an address past them is.
+fn low_word(at: u64) -> u32
+    ensures { result ≡ at % 2 ^ 32 }
+{
+    (at % 0x1_0000_0000) as u32
+}
+
 /// Appends the bytes of a statement at an address.
 #[tactic(auto, unfolding(mips_text::specs::Coded::coded_at))]
 pub fn put_item(labels: &Labels, at: u64, item: &Item, bytes: &mut Vec<u8>) -> Result<(), Stop>
-    requires far { at < 2 ^ 63 + 2 ^ 33 }
-    requires sound { IsSound item.now }
-    ensures { IsCoded (law.coded_at labels.now at (item_shown item.now)) result bytes.old.items bytes.new.items }
+    requires { IsSound item.now }
+    ensures { IsCoded (law.coded_at labels.now at item.now) result bytes.old.items bytes.new.items }
 {
     match item {
-        Item::BranchTo(inst, goal) => put_branch(labels, at, inst, *goal, bytes),
-        Item::JumpTo(inst, goal) => put_jump(labels, at, inst, *goal, bytes),
-        Item::LoadLabel(register, name) => put_label_loading(labels, *register, name, bytes),
+        Item::BranchTo(inst, target) => put_branch(labels, low_word(at), inst, target, bytes),
+        Item::JumpTo(inst, target) => put_jump(labels, low_word(at), inst, target, bytes),
+        Item::LoadLabel(register, name) => put_label_loading(labels, *register, name.text(), bytes),
         _ => {
             put_plain(at, item, bytes)?;
             Ok(())

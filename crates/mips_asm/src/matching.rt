@@ -6,10 +6,11 @@ ghost use Rattle.mips_text.specs.Forms as forms;
 ghost use Rattle.mips_text.specs.Tokens.{IsWithin};
 ghost use Rattle.mips_text.specs.Values as values;
 ghost use Rattle.mips_text.specs.Line as law;
-ghost use Rattle.mips_asm.specs.StatementsOf.{slot_shown, slots_shown, span_shown};
+ghost use Rattle.mips_asm.specs.StatementsOf.{IsNarrow, IsNarrowAt};
 
-use crate::slots::{Slot, Span};
-use mips_text::{Token, TokenKind, cp0_register_of, number_of, register_of, text_size};
+use mips_text::{
+    Expected, Range, Token, TokenKind, cp0_register_of, number_of, register_of, text_size,
+};
 
 /// The text of a token in its line.
 pub fn text_of<'a>(line: &'a [u8], token: &Token) -> &'a [u8]
@@ -32,22 +33,22 @@ fn first_of(text: &[u8]) -> u8
 }
 
 /// Whether a Name stands where a register is expected, and names none.
-fn names_no_register(slot: &Slot, kind: TokenKind, text: &[u8]) -> bool
-    ensures { result ≡ forms.names_no_register (slot_shown slot.now) kind text.now }
+fn names_no_register(one: &Expected, kind: TokenKind, text: &[u8]) -> bool
+    ensures { result ≡ forms.names_no_register one.now kind text.now }
 {
     if !matches!(kind, TokenKind::Name) {
         return false;
     }
-    match slot {
-        Slot::Register(_) => register_of(text).is_none(),
-        Slot::Cp0Register => cp0_register_of(text).is_none(),
+    match one {
+        Expected::ARegister(_) => register_of(text).is_none(),
+        Expected::ACp0Register(_) => cp0_register_of(text).is_none(),
         _ => false,
     }
 }
 
 /// Whether a token is a text that has no other escapes than those that there are.
 fn is_text(kind: TokenKind, text: &[u8]) -> bool
-    ensures { result ≡ forms.has_kind forms.AText kind text.now }
+    ensures { result ≡ forms.has_kind Expected.AText kind text.now }
 {
     if !matches!(kind, TokenKind::Text) {
         return false;
@@ -57,7 +58,7 @@ fn is_text(kind: TokenKind, text: &[u8]) -> bool
 
 /// Whether a token is this mark.
 fn is_mark(code: u8, kind: TokenKind, text: &[u8]) -> bool
-    ensures { result ≡ forms.has_kind (forms.AMark code) kind text.now }
+    ensures { result ≡ forms.has_kind (Expected.AMark code) kind text.now }
 {
     if !matches!(kind, TokenKind::Mark) {
         return false;
@@ -66,122 +67,116 @@ fn is_mark(code: u8, kind: TokenKind, text: &[u8]) -> bool
 }
 
 /// Whether a token is of the kind that is expected.
-fn has_kind(slot: &Slot, kind: TokenKind, text: &[u8]) -> bool
-    ensures { result ≡ forms.has_kind (slot_shown slot.now) kind text.now }
+fn has_kind(one: &Expected, kind: TokenKind, text: &[u8]) -> bool
+    ensures { result ≡ forms.has_kind one.now kind text.now }
 {
-    match slot {
-        Slot::Register(_) | Slot::Cp0Register | Slot::Label => matches!(kind, TokenKind::Name),
-        Slot::Small(_) | Slot::Number(_) | Slot::AnyNumber => matches!(kind, TokenKind::Number),
-        Slot::Target => matches!(kind, TokenKind::Name | TokenKind::Number),
-        Slot::Text => is_text(kind, text),
-        Slot::Mark(code) => is_mark(*code, kind, text),
+    match one {
+        Expected::ARegister(_) | Expected::ACp0Register(_) | Expected::ALabel => {
+            matches!(kind, TokenKind::Name)
+        }
+        Expected::ANumber(..) => matches!(kind, TokenKind::Number),
+        Expected::ATarget => matches!(kind, TokenKind::Name | TokenKind::Number),
+        Expected::AText => is_text(kind, text),
+        Expected::AMark(code) => is_mark(*code, kind, text),
     }
 }
 
-/// Whether a number lies in a span.
-fn contains(span: Span, number: i64) -> bool
-    ensures { result ≡ forms.in_range (span_shown span) number }
+/// Whether a number lies in a range.
+fn contains(range: Range, number: i64) -> bool
+    requires { IsNarrow range }
+    ensures { result ≡ forms.in_range range number }
 {
-    let (low, high) = match span {
-        Span::Unsigned10 => (0, 0x3ff),
-        Span::Unsigned16 => (0, 0xffff),
-        Span::Unsigned20 => (0, 0xfffff),
-        Span::Unsigned26 => (0, 0x3ffffff),
-        Span::Unsigned32 => (0, 0xffffffff),
-        Span::Signed16 => (-0x8000, 0x7fff),
-        Span::Either8 => (-0x80, 0xff),
-        Span::Either32 => (-0x80000000, 0xffffffff),
-    };
-    low <= number && number <= high
+    match range {
+        Range::Unsigned(width) => 0 <= number && number <= (1i64 << width) - 1,
+        Range::WithSign(width) => {
+            let half = 1i64 << (width - 1);
+            -half <= number && number <= half - 1
+        }
+        Range::EitherSign(width) => {
+            -(1i64 << (width - 1)) <= number && number <= (1i64 << width) - 1
+        }
+        Range::AnyNumber => true,
+    }
 }
 
-/// Whether a number's text lies in a span.
+/// Whether a number's text lies in a range.
 #[tactic(auto, using(crate::proofs::Bounds::far_outside))]
-fn holds(span: Span, text: &[u8]) -> bool
-    ensures { result ≡ forms.in_range (span_shown span) (values.number_of text.now) }
+fn holds(range: Range, text: &[u8]) -> bool
+    requires { IsNarrow range }
+    ensures { result ≡ forms.in_range range (values.number_of text.now) }
 {
     match number_of(text) {
-        Some(number) => contains(span, number),
-        None => false,
+        Some(number) => contains(range, number),
+        None => matches!(range, Range::AnyNumber),
     }
 }
 
-/// Whether a number's text is one of 5 bits.
-#[tactic(auto, using(crate::proofs::Bounds::far_outside_small))]
-fn is_small(text: &[u8]) -> bool
-    ensures { result ≡ forms.in_range (forms.unsigned 5) (values.number_of text.now) }
-{
-    match number_of(text) {
-        Some(number) => 0 <= number && number <= 31,
-        None => false,
-    }
-}
-
-/// Whether a Number lies in its span.
-fn has_range(slot: &Slot, kind: TokenKind, text: &[u8]) -> bool
-    ensures { result ≡ forms.has_range (slot_shown slot.now) kind text.now }
+/// Whether a Number lies in its range.
+fn has_range(one: &Expected, kind: TokenKind, text: &[u8]) -> bool
+    requires { IsNarrowAt one.now }
+    ensures { result ≡ forms.has_range one.now kind text.now }
 {
     if !matches!(kind, TokenKind::Number) {
         return true;
     }
-    match slot {
-        Slot::Small(_) => is_small(text),
-        Slot::Number(span) => holds(*span, text),
-        Slot::Target => holds(Span::Unsigned32, text),
+    match one {
+        Expected::ANumber(_, range) => holds(*range, text),
+        Expected::ATarget => holds(Range::Unsigned(32), text),
         _ => true,
     }
 }
 
 /// Whether somewhere a Name stands at a register's place and is none.
-pub fn some_unknown(line: &[u8], slots: &[Slot], tokens: &[Token]) -> bool
+pub fn some_unknown(line: &[u8], expected: &[Expected], tokens: &[Token]) -> bool
     requires { All (IsWithin (length line.now)) tokens.now }
-    ensures { result ≡ law.some_unknown line.now (slots_shown slots.now) tokens.now }
+    ensures { result ≡ law.some_unknown line.now expected.now tokens.now }
 {
-    let [slot, slots @ ..] = slots else {
+    let [one, expected @ ..] = expected else {
         return false;
     };
     let [token, tokens @ ..] = tokens else {
         return false;
     };
-    let unknown = names_no_register(slot, token.kind, text_of(line, token));
+    let unknown = names_no_register(one, token.kind, text_of(line, token));
     if unknown {
         return true;
     }
-    some_unknown(line, slots, tokens)
+    some_unknown(line, expected, tokens)
 }
 
 /// Whether there are as many tokens as are expected, each of its kind.
-pub fn all_agree(line: &[u8], slots: &[Slot], tokens: &[Token]) -> bool
+pub fn all_agree(line: &[u8], expected: &[Expected], tokens: &[Token]) -> bool
     requires { All (IsWithin (length line.now)) tokens.now }
-    ensures { result ≡ law.all_agree line.now (slots_shown slots.now) tokens.now }
+    ensures { result ≡ law.all_agree line.now expected.now tokens.now }
 {
-    let [slot, slots @ ..] = slots else {
+    let [one, expected @ ..] = expected else {
         return tokens.is_empty();
     };
     let [token, tokens @ ..] = tokens else {
         return false;
     };
-    let agrees = has_kind(slot, token.kind, text_of(line, token));
+    let agrees = has_kind(one, token.kind, text_of(line, token));
     if !agrees {
         return false;
     }
-    all_agree(line, slots, tokens)
+    all_agree(line, expected, tokens)
 }
 
 /// Whether each number lies in its range.
-pub fn all_in_range(line: &[u8], slots: &[Slot], tokens: &[Token]) -> bool
-    requires { All (IsWithin (length line.now)) tokens.now }
-    ensures { result ≡ law.all_in_range line.now (slots_shown slots.now) tokens.now }
+pub fn all_in_range(line: &[u8], expected: &[Expected], tokens: &[Token]) -> bool
+    requires within { All (IsWithin (length line.now)) tokens.now }
+    requires narrow { All IsNarrowAt expected.now }
+    ensures { result ≡ law.all_in_range line.now expected.now tokens.now }
 {
-    let [slot, slots @ ..] = slots else {
+    let [one, expected @ ..] = expected else {
         return true;
     };
     let [token, tokens @ ..] = tokens else {
         return true;
     };
-    let fits = has_range(slot, token.kind, text_of(line, token));
+    let fits = has_range(one, token.kind, text_of(line, token));
     if !fits {
         return false;
     }
-    all_in_range(line, slots, tokens)
+    all_in_range(line, expected, tokens)
 }

@@ -4,21 +4,22 @@ ghost use Rattle.std.specs.Prelude.{◌≡◌, ◌<◌, ◌≤◌, ◌+◌, ◌+
 ghost use Rattle.std.specs.List.{All};
 ghost use Rattle.arrayvec.specs.ArrayVec.{array_vec_len};
 ghost use Rattle.mips3_table.specs.Instructions.{FitsWidths, widths_at};
-ghost use Rattle.mips3_table.specs.Operands.{widths_of};
+ghost use Rattle.mips3_table.specs.Operands.{widths_of as widths_law};
 ghost use Rattle.mips_text.specs.Forms as forms;
 ghost use Rattle.mips_text.specs.Tokens.{IsWithin};
 ghost use Rattle.mips_text.specs.Values.{number_of as number_law};
 ghost use Rattle.mips_text.specs.Line as law;
-ghost use Rattle.mips_asm.specs.Shown.{IsSound, item_shown, target_shown};
-ghost use Rattle.mips_asm.specs.StatementsOf.{AreWidths, IsStatement, field_shown, slot_shown, slots_shown, statement_shown};
+ghost use Rattle.mips_asm.specs.Shown.{IsSound, IsSoundBy};
+ghost use Rattle.mips_asm.specs.StatementsOf.{IsStatement};
 
-use crate::items::{Goal, Item};
+use crate::expected::expected_of;
 use crate::matching::text_of;
-use crate::slots::{Place, Slot, slots_of};
-use crate::statements::Statement;
 use arrayvec::ArrayVec;
-use mips_text::{Token, TokenKind, cp0_register_of, number_of, register_of};
-use mips3_table::{Form, Inst, form_of};
+use mips_text::{
+    Bytes, Expected, Field, Item, Name, Operand, Statement, Target, Token, TokenKind, Words,
+    cp0_register_of, number_of, operands_of, register_of,
+};
+use mips3_table::{Form, Inst, form_of, widths_of};
 
 /// The rows of `beq` and `or` in the table.
 const BEQ: u8 = 2;
@@ -56,96 +57,46 @@ fn cp0_register_value(text: &[u8]) -> u8
 }
 
 /// An instruction with another value in a field.
-fn with_field(place: Place, value: u32, inst: Inst) -> Inst
-    ensures { result ≡ law.with_field (field_shown place) value inst }
+fn with_field(field: Field, value: u32, inst: Inst) -> Inst
+    ensures { result ≡ law.with_field field value inst }
 {
     let small = (value % 32) as u8;
-    match place {
-        Place::Rs => Inst { rs: small, ..inst },
-        Place::Rt => Inst { rt: small, ..inst },
-        Place::Rd => Inst { rd: small, ..inst },
-        Place::Sa => Inst { sa: small, ..inst },
-        Place::Imm => Inst { imm: value, ..inst },
+    match field {
+        Field::Rs => Inst { rs: small, ..inst },
+        Field::Rt => Inst { rt: small, ..inst },
+        Field::Rd => Inst { rd: small, ..inst },
+        Field::Sa => Inst { sa: small, ..inst },
+        Field::Imm => Inst { imm: value, ..inst },
     }
 }
 
 /// An instruction with the field that a token gives.
-fn with_operand(slot: &Slot, text: &[u8], inst: Inst) -> Inst
-    ensures { result ≡ law.with_operand (slot_shown slot.now) text.now inst }
+fn with_operand(one: &Expected, text: &[u8], inst: Inst) -> Inst
+    ensures { result ≡ law.with_operand one.now text.now inst }
 {
-    match slot {
-        Slot::Register(place) => with_field(*place, u32::from(register_value(text)), inst),
-        Slot::Cp0Register => with_field(Place::Rd, u32::from(cp0_register_value(text)), inst),
-        Slot::Small(place) => with_field(*place, low_bits(32, number_value(text)), inst),
-        Slot::Number(_) | Slot::AnyNumber => {
-            with_field(Place::Imm, low_bits(32, number_value(text)), inst)
+    match one {
+        Expected::ARegister(field) => with_field(*field, u32::from(register_value(text)), inst),
+        Expected::ACp0Register(field) => {
+            with_field(*field, u32::from(cp0_register_value(text)), inst)
         }
-        Slot::Target | Slot::Label | Slot::Text | Slot::Mark(_) => inst,
+        Expected::ANumber(field, _) => with_field(*field, low_bits(32, number_value(text)), inst),
+        Expected::ATarget | Expected::ALabel | Expected::AText | Expected::AMark(_) => inst,
     }
 }
 
 /// An instruction with the fields that tokens give.
-fn with_operands(line: &[u8], slots: &[Slot], list: &[Token], inst: Inst) -> Inst
+fn with_operands(line: &[u8], expected: &[Expected], list: &[Token], inst: Inst) -> Inst
     requires { All (IsWithin (length line.now)) list.now }
-    ensures { result ≡ law.with_operands line.now (slots_shown slots.now) list.now inst }
+    ensures { result ≡ law.with_operands line.now expected.now list.now inst }
 {
-    let [slot, slots @ ..] = slots else {
+    let [one, expected @ ..] = expected else {
         return inst;
     };
     let [token, list @ ..] = list else {
         return inst;
     };
-    let next = with_operand(slot, text_of(line, token), inst);
-    with_operands(line, slots, list, next)
-}
-
-/// How many bits each field of a form has.
-#[derive(Clone, Copy)]
-pub struct Bits {
-    rs: u8,
-    rt: u8,
-    rd: u8,
-    sa: u8,
-    number: u8,
-}
-
-fn widths(rs: u8, rt: u8, rd: u8, sa: u8, number: u8) -> Bits
-    ensures { result ≡ record { rs = rs; rt = rt; rd = rd; sa = sa; number = number } }
-{
-    Bits {
-        rs,
-        rt,
-        rd,
-        sa,
-        number,
-    }
-}
-
-/// The bits of the fields of a form.
-fn bits_of(form: Form) -> Bits
-    ensures { AreWidths (widths_of form) result }
-{
-    match form {
-        Form::Target | Form::CoprocessorNumber => widths(0, 0, 0, 0, 26),
-        Form::CompareBranch
-        | Form::SignedImmediate
-        | Form::UnsignedImmediate
-        | Form::Memory
-        | Form::CacheOperation
-        | Form::CoprocessorMemory => widths(5, 5, 0, 0, 16),
-        Form::ZeroBranch | Form::TrapImmediate => widths(5, 0, 0, 0, 16),
-        Form::UpperImmediate => widths(0, 5, 0, 0, 16),
-        Form::Shift => widths(0, 5, 5, 5, 0),
-        Form::ShiftByRegister | Form::ThreeRegisters => widths(5, 5, 5, 0, 0),
-        Form::Source => widths(5, 0, 0, 0, 0),
-        Form::JumpAndLinkRegister => widths(5, 0, 5, 0, 0),
-        Form::Code => widths(0, 0, 0, 0, 20),
-        Form::NoOperands => widths(0, 0, 0, 0, 0),
-        Form::Destination => widths(0, 0, 5, 0, 0),
-        Form::TwoSources => widths(5, 5, 0, 0, 0),
-        Form::TrapRegisters => widths(5, 5, 0, 0, 10),
-        Form::Cp0Move => widths(0, 5, 5, 0, 0),
-    }
+    let next = with_operand(one, text_of(line, token), inst);
+    with_operands(line, expected, list, next)
 }
 
 /// So many low bits of a register's field.
@@ -158,16 +109,16 @@ fn cut(field: u8, width: u8) -> u8
 
 /// An instruction whose fields are the low bits that its form has.
 fn fitted(form: Form, inst: Inst) -> Inst
-    ensures { result ≡ law.fitted (widths_of form) inst }
+    ensures { result ≡ law.fitted (widths_law form) inst }
 {
-    let bits = bits_of(form);
+    let widths = widths_of(form);
     Inst {
         row: inst.row,
-        rs: cut(inst.rs, bits.rs),
-        rt: cut(inst.rt, bits.rt),
-        rd: cut(inst.rd, bits.rd),
-        sa: cut(inst.sa, bits.sa),
-        imm: inst.imm % (1u32 << bits.number),
+        rs: cut(inst.rs, widths.rs),
+        rt: cut(inst.rt, widths.rt),
+        rd: cut(inst.rd, widths.rd),
+        sa: cut(inst.sa, widths.sa),
+        imm: inst.imm % (1u32 << widths.number),
     }
 }
 
@@ -192,14 +143,14 @@ fn inst_of(line: &[u8], row: u8, statement: Statement, operands: &[Token]) -> In
     requires row { row < 129 }
     requires statement { IsStatement statement }
     requires within { All (IsWithin (length line.now)) operands.now }
-    ensures value { result ≡ law.inst_of line.now row (statement_shown statement) operands.now }
+    ensures value { result ≡ law.inst_of line.now row statement operands.now }
     ensures row { result.row ≡ row }
     ensures sound { FitsWidths (widths_at row) result }
 {
-    let slots = slots_of(statement, operands.len());
+    let expected = expected_of(statement, operands.len());
     fitted(
         form_of(row),
-        with_operands(line, &slots, operands, bare(row)),
+        with_operands(line, &expected, operands, bare(row)),
     )
 }
 
@@ -223,25 +174,30 @@ fn natural_value(text: &[u8]) -> u32
 }
 
 /// What a token names as a target.
-fn target_of<'a>(kind: TokenKind, text: &'a [u8]) -> Goal<'a>
-    ensures { target_shown result ≡ law.target_of kind text.now }
+fn target_of<'a>(kind: TokenKind, text: &'a [u8]) -> Target<'a>
+    ensures { result ≡ law.target_of kind text.now }
 {
     if matches!(kind, TokenKind::Name) {
-        return Goal::Label(text);
+        return Target::Label(Name::new(text));
     }
-    Goal::Address(natural_value(text))
+    Target::Address(natural_value(text))
 }
 
-/// The target at an index.
-fn target_at<'a>(line: &'a [u8], list: &[Token], at: usize) -> Goal<'a>
+/// The target that tokens give, if one is expected.
+fn target_in<'a>(line: &'a [u8], expected: &[Expected], list: &[Token]) -> Option<Target<'a>>
     requires { All (IsWithin (length line.now)) list.now }
-    ensures { target_shown result ≡ law.target_at line.now list.now at }
+    ensures { result ≡ law.target_in line.now expected.now list.now }
 {
-    if at < list.len() {
-        target_of(list[at].kind, text_of(line, &list[at]))
-    } else {
-        Goal::Address(0)
+    let [one, expected @ ..] = expected else {
+        return None;
+    };
+    let [token, list @ ..] = list else {
+        return None;
+    };
+    if matches!(one, Expected::ATarget) {
+        return Some(target_of(token.kind, text_of(line, token)));
     }
+    target_in(line, expected, list)
 }
 
 /// Appends the numbers among these tokens, as 32 bits each.
@@ -286,21 +242,39 @@ fn alignment_of(text: &[u8]) -> Option<u8>
     }
 }
 
-/// A statement of an instruction, by its form.
-fn item_by_form<'a>(line: &'a [u8], form: Form, inst: Inst, operands: &[Token]) -> Item<'a>
-    requires within { All (IsWithin (length line.now)) operands.now }
-    requires row { inst.row < 129 }
-    requires form { widths_of form ≡ widths_at inst.row }
-    requires sound { FitsWidths (widths_of form) inst }
-    ensures value { item_shown result ≡ law.item_by_form line.now form inst operands.now }
+/// An instruction, which goes to the target where one of its operands is a target.
+fn item_by<'a>(operands: &[Operand], inst: Inst, target: Option<Target<'a>>) -> Item<'a>
+    requires { IsSoundBy operands.now inst }
+    ensures value { result ≡ law.item_by operands.now inst target.entry }
     ensures sound { IsSound result }
 {
-    match form {
-        Form::Target => Item::JumpTo(inst, target_at(line, operands, 0)),
-        Form::CompareBranch => Item::BranchTo(inst, target_at(line, operands, 4)),
-        Form::ZeroBranch => Item::BranchTo(inst, target_at(line, operands, 2)),
-        _ => Item::Plain(inst),
+    let [operand, more @ ..] = operands else {
+        return Item::Plain(inst);
+    };
+    match (operand, target) {
+        (Operand::BranchTarget, Some(target)) => Item::BranchTo(inst, target),
+        (Operand::JumpTarget, Some(target)) => Item::JumpTo(inst, target),
+        (_, target) => item_by(more, inst, target),
     }
+}
+
+/// The instruction of a row with its operands.
+#[tactic(auto, using(crate::proofs::InstRows::sound_by_operands))]
+fn item_of_row<'a>(line: &'a [u8], row: u8, operands: &[Token]) -> Item<'a>
+    requires few { length operands.now < 64 }
+    requires row { row < 129 }
+    requires within { All (IsWithin (length line.now)) operands.now }
+    ensures value { result ≡ law.item_of_row line.now row operands.now }
+    ensures sound { IsSound result }
+{
+    let statement = Statement::Instruction(row);
+    let expected = expected_of(statement, operands.len());
+    let target = target_in(line, &expected, operands);
+    item_by(
+        operands_of(form_of(row)),
+        inst_of(line, row, statement, operands),
+        target,
+    )
 }
 
 /// What a statement puts, by operands that have its shape.
@@ -309,14 +283,11 @@ pub fn item_of<'a>(line: &'a [u8], statement: Statement, operands: &[Token]) -> 
     requires few { length operands.now < 64 }
     requires row { IsStatement statement }
     requires within { All (IsWithin (length line.now)) operands.now }
-    ensures value { item_shown result ≡ law.item_of line.now (statement_shown statement) operands.now }
+    ensures value { result ≡ law.item_of line.now statement operands.now }
     ensures sound { IsSound result }
 {
     match statement {
-        Statement::Instruction(row) => {
-            let inst = inst_of(line, row, statement, operands);
-            item_by_form(line, form_of(row), inst, operands)
-        }
+        Statement::Instruction(row) => item_of_row(line, row, operands),
         Statement::Li => {
             let register = register_value(text_at(line, operands, 0));
             Item::LoadNumber(
@@ -326,28 +297,32 @@ pub fn item_of<'a>(line: &'a [u8], statement: Statement, operands: &[Token]) -> 
         }
         Statement::La => Item::LoadLabel(
             register_value(text_at(line, operands, 0)),
-            text_at(line, operands, 2),
+            Name::new(text_at(line, operands, 2)),
         ),
         Statement::Move => Item::Plain(inst_of(line, OR, statement, operands)),
         Statement::Nop => {
             let mut words = ArrayVec::new();
             words.push(0);
-            Item::Words(words)
+            Item::Words(Words::new(words))
         }
-        Statement::Branch => Item::BranchTo(bare(BEQ), target_at(line, operands, 0)),
+        Statement::Branch => item_by(
+            &[Operand::BranchTarget],
+            bare(BEQ),
+            target_in(line, &[Expected::ATarget], operands),
+        ),
         Statement::Org => Item::Origin(natural_value(text_at(line, operands, 0))),
         Statement::Word => {
             let mut words = ArrayVec::new();
             put_words(line, operands, &mut words);
-            Item::Words(words)
+            Item::Words(Words::new(words))
         }
         Statement::Byte => {
             let mut bytes = ArrayVec::new();
             put_bytes(line, operands, &mut bytes);
-            Item::Bytes(bytes)
+            Item::Bytes(Bytes::of_numbers(bytes))
         }
         Statement::Space => Item::Zeros(natural_value(text_at(line, operands, 0))),
         Statement::Align => Item::Aligned(alignment_of(text_at(line, operands, 0))),
-        Statement::Ascii => Item::Text(text_at(line, operands, 0)),
+        Statement::Ascii => Item::Bytes(Bytes::of_text(text_at(line, operands, 0))),
     }
 }

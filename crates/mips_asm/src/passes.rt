@@ -1,25 +1,26 @@
 //! The base of a source, and the two passes over its lines.
 
-ghost use Rattle.std.specs.Prelude.{◌≡◌, ℕ, ◌<◌, ◌≤◌, ◌+◌, [], ◌^◌, length, unwrap_or, Some, IfOk, IfErr};
-ghost use Rattle.mips_text.specs.Line as line_law;
-ghost use Rattle.mips_text.specs.Coded as coded;
+ghost use Rattle.std.specs.Prelude.{◌≡◌, ℕ, ◌<◌, ◌≤◌, ◌+◌, [], ◌^◌, length, unwrap_or, Some, None, IfOk, IfErr, OnOk};
+ghost use Rattle.flat_ram.specs.Map.{ram_size};
+ghost use Rattle.mips_text.specs.Line.{read_line as read_law};
 ghost use Rattle.mips_asm.specs.Layout as layout;
-ghost use Rattle.mips_asm.specs.Assembly as law;
-ghost use Rattle.mips_asm.specs.Shown.{IsCoded, IsSoundLine, item_shown, line_shown};
-ghost use Rattle.mips_asm.specs.PassesOf.{IsFirstPass, IsLaid, IsRefused, IsSecondPass, place_at};
+ghost use Rattle.mips_asm.specs.Layout.{labels_of, layout_fault, placed, placed_at, readings_of};
+ghost use Rattle.mips_asm.specs.Assembly.{HasNoFault, Image, IsFaultless, assembled, bytes_of_lines, coded_line, coding_fault, entry_of, source_base, source_bytes, source_labels};
+ghost use Rattle.mips_asm.specs.Shown.{IsCoded, IsSoundLine};
+ghost use Rattle.mips_asm.specs.PassesOf.{IsFaultOf, IsRefused, IsRefusedBy, IsStopped, address_after, labels_after};
 
 use crate::built::{AsmFault, Built};
 use crate::coding::{Stop, put_item};
-use crate::items::{Item, Line};
 use crate::labels::Labels;
 use crate::layout::{USUAL_BASE, fault_at, puts_first_byte, size_of};
 use crate::reading::read_line;
 use crate::sources::split_line;
+use mips_text::{Item, Line};
 use std::alloc::Global;
 
 /// The base that a statement decides, if it does.
 fn decided_base(item: &Item) -> Option<u32>
-    ensures { (later : ℕ) → unwrap_or result later ≡ layout.base_by_item (Some (item_shown item.now)) later }
+    ensures { (later : ℕ) → unwrap_or result later ≡ layout.base_by_item (Some item.now) later }
 {
     if let Item::Origin(address) = item {
         return Some(*address);
@@ -34,7 +35,7 @@ fn decided_base(item: &Item) -> Option<u32>
 /// The base that a line decides, if it does. One that cannot be read decides nothing.
 fn base_of_line(line: &[u8]) -> Option<u32>
     requires { length line.now ≤ 4294967294 }
-    ensures { (later : ℕ) → unwrap_or result later ≡ layout.base_by (line_law.read_line line.now) later }
+    ensures { (later : ℕ) → unwrap_or result later ≡ layout.base_by (read_law line.now) later }
 {
     match read_line(line) {
         Ok(
@@ -48,10 +49,10 @@ fn base_of_line(line: &[u8]) -> Option<u32>
 }
 
 /// The base of a source.
-#[tactic(auto, using(crate::proofs::PassList::base_of_nothing, crate::proofs::PassList::base_of_more))]
+#[tactic(auto, using(crate::proofs::Bases::base_of_more))]
 pub fn base_of(source: &[u8]) -> u32
     requires { length source.now ≤ 4294967294 }
-    ensures { result ≡ layout.base_of (layout.lines_of source.now) }
+    ensures { result ≡ layout.base_of (readings_of source.now) }
 {
     let mut rest = source;
     while !rest.is_empty() {
@@ -74,26 +75,31 @@ fn lay_line(
     labels: &mut Labels,
 ) -> Result<u64, Stop>
     requires after { base ≤ address }
-    requires near { address ≤ base + 8388608 }
+    requires near { address ≤ base + ram_size }
     requires sound { IsSoundLine line.now }
-    ensures laid { IsLaid (layout.fault_at base (place_at address labels.old) (line_shown line.now)) (layout.place_after (place_at address labels.old) (line_shown line.now)) result labels.new }
+    ensures stands { OnOk result (layout.fault_at base address labels.old line.now ≡ None) }
+    ensures next { IfOk result (λ next. next ≡ address + layout.size_of address line.now.item) }
+    ensures labels { OnOk result (labels.new ≡ labels_after labels.old address line.now) }
+    ensures stops { IfErr result (IsStopped (layout.fault_at base address labels.old line.now)) }
     ensures after { IfOk result (λ next. base ≤ next) }
-    ensures near { IfOk result (λ next. next ≤ base + 8388608) }
+    ensures near { IfOk result (λ next. next ≤ base + ram_size) }
 {
     if let Some(why) = fault_at(base, address, labels, line) {
         return Err(Stop::Lacks(why));
     }
-    if let Some(name) = line.label {
-        labels.add(alloc, name, (address % 0x100000000) as u32)?;
+    if let Some(name) = &line.label {
+        labels.add(alloc, name.text(), (address % 0x100000000) as u32)?;
     }
     Ok(address + size_of(address, &line.item))
 }
 
 /// The labels of a source, by its first pass.
-#[tactic(auto, using(crate::proofs::PassList::first_pass_nothing, crate::proofs::PassList::first_pass_refused, crate::proofs::PassList::first_pass_fault, crate::proofs::PassList::first_pass_more))]
 pub fn first_pass(alloc: Global, base: u32, source: &[u8]) -> Result<Labels, AsmFault>
     requires { length source.now ≤ 4294967294 }
-    ensures { IsFirstPass (law.first_pass base 1 (place_at base []) (layout.lines_of source.now)) result }
+    ensures labels { IfOk result (λ labels. labels ≡ labels_of (placed base (readings_of source.now))) }
+    ensures sound { OnOk result (HasNoFault (layout_fault base (placed base (readings_of source.now)))) }
+    ensures size { OnOk result (address_after base (readings_of source.now) ≤ base + ram_size) }
+    ensures fault { IfErr result (IsFaultOf (layout_fault base (placed base (readings_of source.now)))) }
 {
     let mut labels = Labels::new(alloc);
     let mut address = u64::from(base);
@@ -120,7 +126,8 @@ pub fn first_pass(alloc: Global, base: u32, source: &[u8]) -> Result<Labels, Asm
 fn fill_line(labels: &Labels, at: u64, line: &[u8], bytes: &mut Vec<u8>) -> Result<(), Stop>
     requires far { at < 2 ^ 63 + 2 ^ 33 }
     requires short { length line.now ≤ 4294967294 }
-    ensures { IsCoded (coded.coded_of labels.now at (law.item_read (line_law.read_line line.now))) result bytes.old.items bytes.new.items }
+    ensures { let line = placed_at at (read_law line.now) in
+        IsCoded (coded_line labels.now line) result bytes.old.items bytes.new.items }
 {
     match read_line(line) {
         Ok(
@@ -134,11 +141,13 @@ fn fill_line(labels: &Labels, at: u64, line: &[u8], bytes: &mut Vec<u8>) -> Resu
 }
 
 /// Appends the bytes of a source, by its second pass.
-#[tactic(auto, using(crate::proofs::PassList::second_pass_nothing, crate::proofs::PassList::with_nothing, crate::proofs::PassList::second_pass_lacking, crate::proofs::PassList::second_pass_more))]
 fn fill(base: u32, labels: &Labels, source: &[u8], bytes: &mut Vec<u8>) -> Result<(), AsmFault>
     requires empty { bytes.old.items ≡ [] }
     requires short { length source.now ≤ 4294967294 }
-    ensures { IsSecondPass (law.second_pass labels.now 1 base (layout.lines_of source.now)) result bytes.new.items }
+    ensures bytes { OnOk result (bytes.new.items ≡ bytes_of_lines labels.now (placed base (readings_of source.now))) }
+    ensures sound { OnOk result (HasNoFault (coding_fault labels.now (placed base (readings_of source.now)))) }
+    ensures size { OnOk result (base + length bytes.new.items ≡ address_after base (readings_of source.now)) }
+    ensures fault { IfErr result (IsFaultOf (coding_fault labels.now (placed base (readings_of source.now)))) }
 {
     let mut number = 1;
     let mut rest = source;
@@ -157,12 +166,23 @@ fn fill(base: u32, labels: &Labels, source: &[u8], bytes: &mut Vec<u8>) -> Resul
 }
 
 /// The image of a source, or its first bad line. A source has at most 4294967294 bytes.
-#[tactic(auto, using(crate::proofs::Sizes::image_size), unfolding(crate::specs::Assembly::assembled))]
+#[tactic(auto, using(crate::proofs::Outcomes::refused_by_layout, crate::proofs::Outcomes::refused_by_coding))]
 pub fn assemble(alloc: Global, source: &[u8]) -> Result<Built, AsmFault>
     requires { length source.now ≤ 4294967294 }
-    ensures built { IfOk result (λ built. law.assembled source.now ≡ law.Image built.base built.entry built.bytes.items) }
-    ensures size { IfOk result (λ built. length built.bytes.items ≤ 8388608) }
-    ensures bad { IfErr result (λ fault. IsRefused (law.assembled source.now) fault) }
+
+    // The image of a source none of whose lines has a fault.
+    ensures base { IfOk result (λ built. built.base ≡ source_base source.now) }
+    ensures entry { IfOk result (λ built. built.entry ≡ entry_of built.base (source_labels source.now)) }
+    ensures bytes { IfOk result (λ built. built.bytes.items ≡ source_bytes source.now) }
+    ensures size { IfOk result (λ built. length built.bytes.items ≤ ram_size) }
+    ensures faultless { OnOk result (IsFaultless source.now) }
+
+    // The first line that has a fault.
+    ensures first_fault { IfErr result (IsRefusedBy source.now) }
+
+    // The same by the function that says what a source is assembled to.
+    ensures built { IfOk result (λ built. assembled source.now ≡ Image built.base built.entry built.bytes.items) }
+    ensures bad { IfErr result (IsRefused (assembled source.now)) }
 {
     let base = base_of(source);
     let labels = first_pass(alloc, base, source)?;

@@ -5,16 +5,15 @@ ghost use Rattle.std.specs.List.{All};
 ghost use Rattle.mips_text.specs.Forms as forms;
 ghost use Rattle.mips_text.specs.Tokens.{IsWithin};
 ghost use Rattle.mips_text.specs.Line as law;
-ghost use Rattle.mips_asm.specs.Shown.{IsSound, IsSoundLine, label_shown, reading_shown, statement_shown as items_shown};
-ghost use Rattle.mips_asm.specs.StatementsOf.{IsStatement, statement_shown};
+ghost use Rattle.mips_asm.specs.Shown.{IsSound, IsSoundLine, reading_shown};
+ghost use Rattle.mips_asm.specs.StatementsOf.{IsStatement};
 
-use crate::items::{Item, Line};
+use crate::expected::expected_of;
 use crate::matching::{all_agree, all_in_range, some_unknown, text_of};
 use crate::operands::item_of;
-use crate::slots::slots_of;
-use crate::statements::{Statement, statement_named};
+use crate::statements::statement_named;
 use arrayvec::ArrayVec;
-use mips_text::{AsmWhy, Token, TokenKind, tokens};
+use mips_text::{AsmWhy, Item, Line, Name, Statement, Token, TokenKind, tokens};
 
 /// The first reason for which these tokens are not the operands of a statement.
 #[tactic(auto, unfolding(mips_text::specs::Line::operands_fault))]
@@ -22,35 +21,35 @@ fn operands_fault(line: &[u8], statement: Statement, operands: &[Token]) -> Opti
     requires few { length operands.now < 64 }
     requires row { IsStatement statement }
     requires within { All (IsWithin (length line.now)) operands.now }
-    ensures { result ≡ law.operands_fault line.now (forms.shape_of (statement_shown statement)) operands.now }
+    ensures { result ≡ law.operands_fault line.now (forms.shape_of statement) operands.now }
 {
-    let slots = slots_of(statement, operands.len());
-    let unknown = some_unknown(line, &slots, operands);
+    let expected = expected_of(statement, operands.len());
+    let unknown = some_unknown(line, &expected, operands);
     if unknown {
         return Some(AsmWhy::Unknown);
     }
-    let agree = all_agree(line, &slots, operands);
+    let agree = all_agree(line, &expected, operands);
     if !agree {
         return Some(AsmWhy::Operand);
     }
-    let fit = all_in_range(line, &slots, operands);
+    let fit = all_in_range(line, &expected, operands);
     if fit { None } else { Some(AsmWhy::Range) }
 }
 
 /// Whether a label has more than 64 characters.
-fn is_too_long(label: &Option<&[u8]>) -> bool
-    ensures { result ≡ law.is_too_long (label_shown label.now) }
+fn is_too_long(label: &Option<Name>) -> bool
+    ensures { result ≡ law.is_too_long label.now }
 {
     match label {
-        Some(name) => name.len() > 64,
+        Some(name) => name.text().len() > 64,
         None => false,
     }
 }
 
 /// A line that has no other fault than, maybe, too long a label.
-fn with_label<'a>(label: Option<&'a [u8]>, item: Option<Item<'a>>) -> Result<Line<'a>, AsmWhy>
+fn with_label<'a>(label: Option<Name<'a>>, item: Option<Item<'a>>) -> Result<Line<'a>, AsmWhy>
     requires { IfSome item IsSound }
-    ensures reading { reading_shown result ≡ law.with_label (label_shown label.entry) (items_shown item.entry) }
+    ensures reading { reading_shown result ≡ law.with_label label.entry item.entry }
     ensures sound { IfOk result IsSoundLine }
 {
     let long = is_too_long(&label);
@@ -63,14 +62,14 @@ fn with_label<'a>(label: Option<&'a [u8]>, item: Option<Item<'a>>) -> Result<Lin
 /// A statement with its operands.
 fn read_operands<'a>(
     line: &'a [u8],
-    label: Option<&'a [u8]>,
+    label: Option<Name<'a>>,
     statement: Statement,
     operands: &[Token],
 ) -> Result<Line<'a>, AsmWhy>
     requires few { length operands.now < 64 }
     requires row { IsStatement statement }
     requires within { All (IsWithin (length line.now)) operands.now }
-    ensures reading { reading_shown result ≡ law.statement_by_name line.now (label_shown label.entry) (Some (statement_shown statement)) operands.now }
+    ensures reading { reading_shown result ≡ law.statement_by_name line.now label.entry (Some statement) operands.now }
     ensures sound { IfOk result IsSoundLine }
 {
     if let Some(why) = operands_fault(line, statement, operands) {
@@ -83,12 +82,12 @@ fn read_operands<'a>(
 #[tactic(auto, unfolding(mips_text::specs::Line::read_statement))]
 fn read_statement<'a>(
     line: &'a [u8],
-    label: Option<&'a [u8]>,
+    label: Option<Name<'a>>,
     list: &[Token],
 ) -> Result<Line<'a>, AsmWhy>
     requires few { length list.now ≤ 64 }
     requires within { All (IsWithin (length line.now)) list.now }
-    ensures reading { reading_shown result ≡ law.read_statement line.now (label_shown label.entry) list.now }
+    ensures reading { reading_shown result ≡ law.read_statement line.now label.entry list.now }
     ensures sound { IfOk result IsSoundLine }
 {
     let [name, operands @ ..] = list else {
@@ -126,7 +125,7 @@ fn read_tokens<'a>(line: &'a [u8], list: &[Token]) -> Result<Line<'a>, AsmWhy>
     };
     let labelled = is_label(line, name, colon);
     if labelled {
-        read_statement(line, Some(text_of(line, name)), rest)
+        read_statement(line, Some(Name::new(text_of(line, name))), rest)
     } else {
         read_statement(line, None, list)
     }

@@ -2,27 +2,10 @@
 
 ghost use Rattle.std.specs.Prelude.{◌≡◌, IfSome, bytes_eq};
 ghost use Rattle.mips_text.specs.Forms as forms;
-ghost use Rattle.mips_asm.specs.StatementsOf.{IsStatement, name_shown};
+ghost use Rattle.mips_asm.specs.StatementsOf.{IsStatement};
 
-use mips_text::row_named;
-
-/// A statement, as its name tells it.
-#[derive(Clone, Copy)]
-pub enum Statement {
-    /// An instruction, by its row's number.
-    Instruction(u8),
-    Li,
-    La,
-    Move,
-    Nop,
-    Branch,
-    Org,
-    Word,
-    Byte,
-    Space,
-    Align,
-    Ascii,
-}
+use mips_text::Statement;
+use mips3_table::row_named;
 
 /// Whether a text is this name.
 fn reads(text: &[u8], name: &str) -> bool
@@ -32,9 +15,8 @@ fn reads(text: &[u8], name: &str) -> bool
 }
 
 /// The directive of a name, or the instruction.
-#[tactic(auto, using(crate::proofs::RowNames::row_within))]
 fn directive_named(text: &[u8]) -> Option<Statement>
-    ensures value { name_shown result ≡ forms.directive_of text.now }
+    ensures value { result ≡ forms.directive_of text.now }
     ensures row { IfSome result IsStatement }
 {
     let is_org = reads(text, ".org");
@@ -70,7 +52,7 @@ fn directive_named(text: &[u8]) -> Option<Statement>
 /// The statement of a name.
 #[tactic(auto, unfolding(mips_text::specs::Forms::statement_named))]
 pub fn statement_named(text: &[u8]) -> Option<Statement>
-    ensures value { name_shown result ≡ forms.statement_named text.now }
+    ensures value { result ≡ forms.statement_named text.now }
     ensures row { IfSome result IsStatement }
 {
     let is_li = reads(text, "li");

@@ -6,6 +6,7 @@ use Rattle.std.proofs.lemmas.List.Sums.{prefix_len-le-length}
 use Rattle.std.proofs.Math.ListN.{drop_of_length-le}
 use Rattle.std.proofs.Math.Seq.{take-append_seam}
 use Rattle.std.specs.List.{prefix_len, All}
+use Rattle.r4_words.specs.Texts.{is_digit}
 use Rattle.mips_text.specs.declared.reason.AsmWhy.{AsmWhy}
 use Rattle.mips_text.specs.declared.reason.AsmWhy.TheVariants.{Operand, Unknown}
 use Rattle.mips_text.specs.declared.token.Token.{Token}
@@ -13,7 +14,7 @@ use Rattle.mips_text.specs.declared.token.TokenKind.{TokenKind}
 use Rattle.mips_text.specs.declared.token.TokenKind.TheVariants.{Name, Number, Mark}
 use Rattle.mips_text.specs.declared.token.Start.{Start}
 use Rattle.mips_text.specs.declared.token.Start.TheVariants.{Blank, Comment, Begins, Refused}
-use Rattle.mips_text.specs.Tokens.{Cut, whole, refused, before, token_at, cut_by, cut_from, start_of, one_more, quoted_length, quoted, number_length, is_hexadecimal, is_digit, is_hex_digit, is_name_start, is_name_byte, is_blank, is_mark, Spans, InOrder, IsWithin, at_most, Ends}
+use Rattle.mips_text.specs.Tokens.{Cut, whole, refused, before, token_at, cut_by, cut_from, start_of, one_more, quoted_length, quoted, number_length, is_hexadecimal, is_hex_digit, is_name_start, is_name_byte, is_blank, is_mark, Spans, InOrder, IsWithin, at_most, Ends}
 
 -- so many more
 abbrev pub more_at : ℕ → Option ℕ → Option ℕ

@@ -5,10 +5,10 @@ use Rattle.std.specs.Int.Digits.{digits_of, number_from_digits_after, AllBelowBa
 use Rattle.std.proofs.lemmas.Int.Digits.{number_digits_of, all_below_base_digits_of, first_digits_of}
 use Rattle.std.proofs.lemmas.List.{length-map}
 use Rattle.std.proofs.lemmas.Grind.{common_steps}
-use Rattle.r4_words.specs.Texts.{dec_of, digit_of}
+use Rattle.r4_words.specs.Texts.{dec_of, digit_of, is_digit, value_of_digit, number_after}
 use Rattle.r4_words.proofs.ReadBack.{dec_of_are_digits}
-use Rattle.mips_text.specs.Tokens.{is_digit, is_hex_digit}
-use Rattle.mips_text.specs.Values.{hex_digits_of, value_of_digit, number_after}
+use Rattle.mips_text.specs.Tokens.{is_hex_digit}
+use Rattle.mips_text.specs.Values.{hex_digits_of}
 
 some_from_first : (digits : List ℕ) → 0 < get_or digits 0 0 → 0 < length digits
 some_from_first [] some = absurd (omega arith)

@@ -11,5 +11,7 @@ pub mod ReadValues
 pub mod Places
 pub mod OperandPlaces
 pub mod OperandValues
+pub mod FormOperands
+pub mod Reached
 pub mod ReadBack
 pub mod ReadReserved

@@ -3,9 +3,6 @@ use Rattle.std.proofs.Common.{◌≡◌, ◌<◌, ℕ, Bool, true, false, cond, 
 use Rattle.std.specs.List.{position, position_or_len}
 use Rattle.std.proofs.lemmas.List.Sums.{position_or_len_is}
 use Rattle.std.proofs.lemmas.Grind.{common_steps}
-use Rattle.mips3_table.specs.Rows.{Row, rows, row_at, no_row}
-use Rattle.mips3_table.proofs.Apart.{rows_count}
-use Rattle.mips_text.specs.Forms.{row_named}
 use Rattle.mips_text.specs.Names.{register_names, register_name, cp0_names, cp0_name}
 
 position_here : {X : Type 0} (p : X → Bool) (names : List X) (none : X) (i : ℕ) → i < length names → ((k : ℕ) → k < i → p (slice_index_or names k none) ≡ false) → p (slice_index_or names i none) ≡ true →
@@ -43,11 +40,3 @@ cp0_here text i lt before here = let within : i < length cp0_names = rw cp0_coun
 pub cp0_nowhere : (text : List ℕ) → ((k : ℕ) → k < 32 → bytes_eq text (cp0_name k) ≡ false) → position (bytes_eq text) cp0_names ≡ None
 unfolding cp0_name
 cp0_nowhere text before = position_nowhere (bytes_eq text) cp0_names [] 32 cp0_count before
-
-pub row_here : (name : List ℕ) (i : ℕ) → i < 129 → ((k : ℕ) → k < i → bytes_eq name (row_at k).name ≡ false) → bytes_eq name (row_at i).name ≡ true → row_named name ≡ Some i
-unfolding row_at row_named
-row_here name i lt before here = let within : i < length rows = rw rows_count lt in position_here (λ (row : Row). bytes_eq name row.name) rows no_row i within before here
-
-pub row_nowhere : (name : List ℕ) → ((k : ℕ) → k < 129 → bytes_eq name (row_at k).name ≡ false) → row_named name ≡ None
-unfolding row_at row_named
-row_nowhere name before = position_nowhere (λ (row : Row). bytes_eq name row.name) rows no_row 129 rows_count before

@@ -2,7 +2,8 @@
 use Rattle.std.proofs.Common.{◌≡◌, ◌<◌, ◌≤◌, ◌+◌, ◌*◌, ◌^◌, ℕ, pos, neg_ℤ, nat_abs, zero, suc, true, false, if◌then◌else◌, List, [], ◌∷◌, length, drop, get_or, Some, None, nat_lt, refl, ap, sym, ◌∙◌, arith}
 use Rattle.std.proofs.Math.Nat.{mul-le-mul_left}
 use Rattle.std.proofs.lemmas.Grind.{common_steps}
-use Rattle.mips_text.specs.Values.{number_after, value_of_digit, small, bounded}
+use Rattle.r4_words.specs.Texts.{number_after, value_of_digit}
+use Rattle.mips_text.specs.Values.{small, bounded}
 
 -- a number only grows by further digits
 pub number_after_least : (base number : ℕ) (text : List ℕ) → 0 < base → number ≤ number_after base number text

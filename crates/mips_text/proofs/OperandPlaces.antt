@@ -1,14 +1,21 @@
 -- The places of the operands of an instruction: their texts are the printed ones, they chain, and what is expected at
 -- them is what the operands' form expects.
 use Rattle.std.proofs.Common.{◌≡◌, ◌<◌, ◌≤◌, ◌+◌, ◌*◌, ◌^◌, ℕ, true, List, [], ◌∷◌, ◌++◌, map, codes, length, slice_index, None, refl, ap, sym, ◌∙◌, subst, arith, append_assoc, append-nil}
+use Rattle.mips3_code.specs.Targets.{branch_target, jump_target}
 use Rattle.mips3_table.specs.declared.instruction.Inst.{Inst}
 use Rattle.mips_text.specs.declared.token.TokenKind.TheVariants.{Name, Number, Mark}
 use Rattle.mips_text.specs.Tokens.{tokens_of}
 use Rattle.mips_text.specs.Names.{register_name, cp0_name}
 use Rattle.mips_text.specs.Values.{hex_text, signed_text}
 use Rattle.r4_words.specs.Texts.{dec_of}
-use Rattle.mips_text.specs.Forms.{Field, Rs, Rd, Imm, Operand, Register, Cp0Register, Decimal, Hexadecimal, Signed, Based, BranchTarget, JumpTarget, ARegister, ACp0Register, ANumber, ATarget, AMark, unsigned, signed, expected_of, separated}
-use Rattle.mips_text.specs.Printed.{field_of, branch_target, jump_target, based_text, operand_text, with_commas, after_name}
+use Rattle.mips_text.specs.declared.operand.Field.{Field}
+use Rattle.mips_text.specs.declared.operand.Field.TheVariants.{Rs, Rd, Imm}
+use Rattle.mips_text.specs.declared.operand.Operand.{Operand}
+use Rattle.mips_text.specs.declared.operand.Operand.TheVariants.{Register, Cp0Register, Decimal, Hexadecimal, Signed, Based, BranchTarget, JumpTarget}
+use Rattle.mips_text.specs.declared.operand.Expected.TheVariants.{ARegister, ACp0Register, ANumber, ATarget, AMark}
+use Rattle.mips_text.specs.declared.operand.Range.TheVariants.{Unsigned, WithSign}
+use Rattle.mips_text.specs.Forms.{expected_of, separated}
+use Rattle.mips_text.specs.Printed.{field_of, based_text, operand_text, with_commas, after_name, OperandFits, AllFit}
 use Rattle.mips_text.proofs.Pieces.{Piece, is_end, IsPiece, text_of_pieces, Chain, Spells, line_of_one, line_of_more, register_piece, cp0_piece, decimal_piece, hexadecimal_piece, signed_piece, mark_piece}
 use Rattle.mips_text.proofs.Places.{Place, place, pieces_at, expected_at, NoColon}
 
@@ -17,7 +24,7 @@ abbrev pub register_place : Field → ℕ → Place
 register_place field register = place (ARegister field) Name (register_name register)
 
 abbrev pub signed_place : ℕ → Place
-signed_place half = place (ANumber Imm (signed 16)) Number (signed_text half)
+signed_place half = place (ANumber Imm (WithSign 16)) Number (signed_text half)
 
 -- an address
 abbrev pub target_place : ℕ → Place
@@ -30,8 +37,8 @@ mark_place code = place (AMark code) Mark (code ∷ [])
 abbrev pub places_before : Inst → ℕ → Operand → List Place → List Place
 places_before inst at (Register field) more = register_place field (field_of field inst) ∷ more
 places_before inst at Cp0Register more = place (ACp0Register Rd) Name (cp0_name inst.rd) ∷ more
-places_before inst at (Decimal field width) more = place (ANumber field (unsigned width)) Number (dec_of (field_of field inst)) ∷ more
-places_before inst at (Hexadecimal field width) more = place (ANumber field (unsigned width)) Number (hex_text (field_of field inst)) ∷ more
+places_before inst at (Decimal field width) more = place (ANumber field (Unsigned width)) Number (dec_of (field_of field inst)) ∷ more
+places_before inst at (Hexadecimal field width) more = place (ANumber field (Unsigned width)) Number (hex_text (field_of field inst)) ∷ more
 places_before inst at Signed more = signed_place inst.imm ∷ more
 places_before inst at Based more = signed_place inst.imm ∷ mark_place 40 ∷ register_place Rs inst.rs ∷ mark_place 41 ∷ more
 places_before inst at BranchTarget more = target_place (branch_target at inst.imm) ∷ more
@@ -42,21 +49,6 @@ abbrev pub places_of : Inst → ℕ → List Operand → List Place
 places_of inst at [] = []
 places_of inst at (one ∷ []) = places_before inst at one []
 places_of inst at (one ∷ next ∷ more) = places_before inst at one (mark_place 44 ∷ places_of inst at (next ∷ more))
-
--- what an operand says is in range, so that its text says it
-abbrev pub OperandFits : Inst → Operand → Type 0
-OperandFits inst (Register field) = field_of field inst < 32
-OperandFits inst Cp0Register = inst.rd < 32
-OperandFits inst (Decimal field width) = (field_of field inst < 2 ^ width) × (2 ^ width ≤ 2 ^ 32)
-OperandFits inst (Hexadecimal field width) = (field_of field inst < 2 ^ width) × (2 ^ width ≤ 2 ^ 32)
-OperandFits inst Signed = inst.imm < 2 ^ 16
-OperandFits inst Based = (inst.imm < 2 ^ 16) × (inst.rs < 32)
-OperandFits inst BranchTarget = inst.imm < 2 ^ 16
-OperandFits inst JumpTarget = inst.imm < 2 ^ 26
-
-abbrev pub AllFit : Inst → List Operand → Type 0
-AllFit inst [] = Unit {0}
-AllFit inst (one ∷ more) = OperandFits inst one × AllFit inst more
 
 -- what is expected
 expected_before : (inst : Inst) (at : ℕ) (one : Operand) (more : List Place) → expected_at (places_before inst at one more) ≡ expected_of one ++ expected_at more

@@ -1,17 +1,26 @@
 -- What stands at the places of an operand agrees with what is expected there, and gives the operand's fields back.
 use Rattle.std.proofs.Common.{◌≡◌, ◌<◌, ◌+◌, ◌-◌, ◌%◌, ◌==◌, ◌^◌, ℕ, pos, neg_ℤ, negsuc, suc, Bool, true, false, ◌&&◌, List, [], ◌∷◌, Some, None, nat_lt, nat_le, unwrap_or, is_none, if◌then◌else◌, refl, ap, ◌∙◌, arith, lt-ltb, le-leb, ltb-true, ltb-false}
 use Rattle.std.proofs.lemmas.Grind.{common_steps}
+use Rattle.mips3_code.specs.Targets.{branch_target, jump_target}
+use Rattle.r4_words.specs.Words.{sext16}
 use Rattle.mips3_table.specs.declared.instruction.Inst.{Inst}
+use Rattle.mips3_code.proofs.Reach.{branch_target_below, jump_target_below}
 use Rattle.mips_text.specs.declared.token.TokenKind.TheVariants.{Name, Number}
 use Rattle.mips_text.specs.Names.{register_name, cp0_name}
 use Rattle.r4_words.specs.Texts.{dec_of}
 use Rattle.mips_text.specs.Values.{hex_text, signed_text, number_of, bounded}
-use Rattle.mips_text.specs.Forms.{Field, Rs, Rd, Imm, Operand, Register, Cp0Register, Decimal, Hexadecimal, Signed, Based, BranchTarget, JumpTarget, ACp0Register, ANumber, unsigned, signed, in_range}
-use Rattle.mips_text.specs.Printed.{field_of, sign_extended, branch_target, jump_target}
+use Rattle.mips_text.specs.declared.operand.Field.{Field}
+use Rattle.mips_text.specs.declared.operand.Field.TheVariants.{Rs, Rd, Imm}
+use Rattle.mips_text.specs.declared.operand.Operand.{Operand}
+use Rattle.mips_text.specs.declared.operand.Operand.TheVariants.{Register, Cp0Register, Decimal, Hexadecimal, Signed, Based, BranchTarget, JumpTarget}
+use Rattle.mips_text.specs.declared.operand.Expected.TheVariants.{ACp0Register, ANumber}
+use Rattle.mips_text.specs.declared.operand.Range.TheVariants.{Unsigned, WithSign}
+use Rattle.mips_text.specs.Forms.{in_range}
+use Rattle.mips_text.specs.Printed.{field_of, OperandFits, AllFit}
 use Rattle.mips_text.specs.Line.{natural, number_value, in_bits, register_value, cp0_register_value, with_field}
 use Rattle.mips_text.proofs.ReadValues.{register_read, cp0_read, decimal_read, hexadecimal_read, signed_value, signed_read}
 use Rattle.mips_text.proofs.Places.{Place, place, Agrees, AllAgree, with_places}
-use Rattle.mips_text.proofs.OperandPlaces.{register_place, signed_place, target_place, mark_place, places_before, places_of, OperandFits, AllFit}
+use Rattle.mips_text.proofs.OperandPlaces.{register_place, signed_place, target_place, mark_place, places_before, places_of}
 
 -- a general register
 register_agrees : (field : Field) (register : ℕ) → register < 32 → Agrees (register_place field register)
@@ -32,11 +41,11 @@ cp0_back register lt =
     ap (λ r. unwrap_or r 0 % 2 ^ 5) (cp0_read register lt) ∙ small
 
 -- a number without a sign
-unsigned_range : (width n : ℕ) → n < 2 ^ width → in_range (unsigned width) (pos n) ≡ true
+unsigned_range : (width n : ℕ) → n < 2 ^ width → in_range (Unsigned width) (pos n) ≡ true
 unsigned_range width n lt = let within : nat_le n (2 ^ width - 1) ≡ true = le-leb n (2 ^ width - 1) (omega arith) in grind (arith, common_steps)
 
-number_agrees : (field : Field) (width n : ℕ) (text : List ℕ) → number_of text ≡ pos n → n < 2 ^ width → Agrees (place (ANumber field (unsigned width)) Number text)
-number_agrees field width n text is lt = record { known = refl; kind = refl; range = ap (in_range (unsigned width)) is ∙ unsigned_range width n lt }
+number_agrees : (field : Field) (width n : ℕ) (text : List ℕ) → number_of text ≡ pos n → n < 2 ^ width → Agrees (place (ANumber field (Unsigned width)) Number text)
+number_agrees field width n text is lt = record { known = refl; kind = refl; range = ap (in_range (Unsigned width)) is ∙ unsigned_range width n lt }
 
 bounded_small : (n : ℕ) → n < 2 ^ 32 → bounded (pos n) ≡ Some (pos n)
 bounded_small n lt = ap (λ b. if b then Some (pos n) else None) (lt-ltb n (2 ^ 32) lt)
@@ -51,18 +60,10 @@ number_back n text is lt =
 
 -- an address
 target_agrees : (target : ℕ) → target < 2 ^ 32 → Agrees (target_place target)
-target_agrees target lt = record { known = refl; kind = refl; range = ap (in_range (unsigned 32)) (hexadecimal_read target) ∙ unsigned_range 32 target lt }
+target_agrees target lt = record { known = refl; kind = refl; range = ap (in_range (Unsigned 32)) (hexadecimal_read target) ∙ unsigned_range 32 target lt }
 
 pub target_back : (target : ℕ) → target < 2 ^ 32 → natural (number_value (hex_text target)) ≡ target
 target_back target lt = ap natural (value_back target (hex_text target) (hexadecimal_read target) lt)
-
-pub branch_target_below : (at distance : ℕ) → branch_target at distance < 2 ^ 32
-unfolding branch_target
-branch_target_below at distance = omega arith
-
-pub jump_target_below : (at number : ℕ) → number < 2 ^ 26 → jump_target at number < 2 ^ 32
-unfolding jump_target
-jump_target_below at number lt = omega arith
 
 -- a number in two's complement
 negated : (half : ℕ) → half < 2 ^ 16 → neg_ℤ (pos (2 ^ 16 - half)) ≡ negsuc (2 ^ 16 - 1 - half)
@@ -71,7 +72,7 @@ negated half lt = let one_more : 2 ^ 16 - half ≡ suc (2 ^ 16 - 1 - half) = ome
 bounded_negative : (n : ℕ) → n < 2 ^ 16 → bounded (negsuc n) ≡ Some (negsuc n)
 bounded_negative n lt = ap (λ b. if b then Some (negsuc n) else None) (lt-ltb (suc n) (2 ^ 32) (omega arith))
 
-range_by : (half : ℕ) (low : Bool) → half < 2 ^ 16 → nat_lt half (2 ^ 15) ≡ low → in_range (signed 16) (if low then pos half else neg_ℤ (pos (2 ^ 16 - half))) ≡ true
+range_by : (half : ℕ) (low : Bool) → half < 2 ^ 16 → nat_lt half (2 ^ 15) ≡ low → in_range (WithSign 16) (if low then pos half else neg_ℤ (pos (2 ^ 16 - half))) ≡ true
 range_by half true lt is =
     let small = ltb-true half (2 ^ 15) is in
     let within : nat_le half (2 ^ 15 - 1) ≡ true = le-leb half (2 ^ 15 - 1) (omega arith) in
@@ -79,13 +80,13 @@ range_by half true lt is =
 range_by half false lt is =
     let large = ltb-false half (2 ^ 15) is in
     let within : nat_le (2 ^ 16 - 1 - half) (2 ^ 15 - 1) ≡ true = le-leb (2 ^ 16 - 1 - half) (2 ^ 15 - 1) (omega arith) in
-    ap (in_range (signed 16)) (negated half lt) ∙ ap (λ b. b && true) within
+    ap (in_range (WithSign 16)) (negated half lt) ∙ ap (λ b. b && true) within
 
-signed_range : (half : ℕ) → half < 2 ^ 16 → in_range (signed 16) (signed_value half) ≡ true
+signed_range : (half : ℕ) → half < 2 ^ 16 → in_range (WithSign 16) (signed_value half) ≡ true
 signed_range half lt = range_by half (nat_lt half (2 ^ 15)) lt refl
 
 signed_agrees : (half : ℕ) → half < 2 ^ 16 → Agrees (signed_place half)
-signed_agrees half lt = record { known = refl; kind = refl; range = ap (in_range (signed 16)) (signed_read half lt) ∙ signed_range half lt }
+signed_agrees half lt = record { known = refl; kind = refl; range = ap (in_range (WithSign 16)) (signed_read half lt) ∙ signed_range half lt }
 
 bits_by : (half : ℕ) (low : Bool) → half < 2 ^ 16 → nat_lt half (2 ^ 15) ≡ low →
     in_bits 32 (unwrap_or (bounded (if low then pos half else neg_ℤ (pos (2 ^ 16 - half)))) (pos 0)) ≡ (if low then half else half + (2 ^ 32 - 2 ^ 16))
@@ -98,7 +99,7 @@ bits_by half false lt is =
     ap (λ z. in_bits 32 (unwrap_or (bounded z) (pos 0))) (negated half lt)
     ∙ ap (λ z. in_bits 32 (unwrap_or z (pos 0))) (bounded_negative (2 ^ 16 - 1 - half) (omega arith)) ∙ same
 
-signed_back : (half : ℕ) → half < 2 ^ 16 → in_bits 32 (number_value (signed_text half)) ≡ sign_extended half
+signed_back : (half : ℕ) → half < 2 ^ 16 → in_bits 32 (number_value (signed_text half)) ≡ sext16 half
 signed_back half lt = ap (λ z. in_bits 32 (unwrap_or (bounded z) (pos 0))) (signed_read half lt) ∙ bits_by half (nat_lt half (2 ^ 15)) lt refl
 
 -- a mark
@@ -133,8 +134,8 @@ taken (Register field) inst to = with_field field (field_of field inst) to
 taken Cp0Register inst to = with_field Rd inst.rd to
 taken (Decimal field width) inst to = with_field field (field_of field inst) to
 taken (Hexadecimal field width) inst to = with_field field (field_of field inst) to
-taken Signed inst to = with_field Imm (sign_extended inst.imm) to
-taken Based inst to = with_field Rs inst.rs (with_field Imm (sign_extended inst.imm) to)
+taken Signed inst to = with_field Imm (sext16 inst.imm) to
+taken Based inst to = with_field Rs inst.rs (with_field Imm (sext16 inst.imm) to)
 taken BranchTarget inst to = to
 taken JumpTarget inst to = to
 
@@ -152,7 +153,7 @@ with_before inst at (Hexadecimal field width) more to fits =
 with_before inst at Signed more to fits = ap (λ n. with_places more (with_field Imm n to)) (signed_back inst.imm fits)
 with_before inst at Based more to fits =
     ap (λ n. with_places more (with_field Rs (register_value (register_name inst.rs)) (with_field Imm n to))) (signed_back inst.imm fits.0)
-    ∙ ap (λ r. with_places more (with_field Rs r (with_field Imm (sign_extended inst.imm) to))) (register_back inst.rs fits.1)
+    ∙ ap (λ r. with_places more (with_field Rs r (with_field Imm (sext16 inst.imm) to))) (register_back inst.rs fits.1)
 with_before inst at BranchTarget more to fits = refl
 with_before inst at JumpTarget more to fits = refl
 

@@ -6,14 +6,14 @@ use Rattle.std.proofs.lemmas.List.Sums.{AllPass-from_list_all}
 use Rattle.std.proofs.lemmas.List.{get_or-append-add}
 use Rattle.std.proofs.Math.Seq.{drop-append_seam, take-append_seam}
 use Rattle.std.proofs.lemmas.Grind.{common_steps}
-use Rattle.r4_words.specs.Texts.{dec_of}
+use Rattle.r4_words.specs.Texts.{dec_of, is_digit}
 use Rattle.mips3_table.specs.Rows.{Row, rows, row_at}
 use Rattle.mips3_table.proofs.Apart.{each_at, rows_count}
 use Rattle.mips_text.specs.declared.token.Token.{Token}
 use Rattle.mips_text.specs.declared.token.TokenKind.{TokenKind}
 use Rattle.mips_text.specs.declared.token.TokenKind.TheVariants.{Name, Number, Text, Mark}
 use Rattle.mips_text.specs.declared.token.Start.TheVariants.{Blank, Begins}
-use Rattle.mips_text.specs.Tokens.{Cut, cut_from, start_of, without_return, at_most, tokens_of, is_mark, is_digit, is_hex_digit, is_name_start, is_name_byte}
+use Rattle.mips_text.specs.Tokens.{Cut, cut_from, start_of, without_return, at_most, tokens_of, is_mark, is_hex_digit, is_name_start, is_name_byte}
 use Rattle.mips_text.specs.Forms.{token_text}
 use Rattle.mips_text.proofs.Cutting.{cut_token, cut_blank, cut_end, at_most_within}
 use Rattle.mips_text.specs.Names.{register_names, register_name, cp0_names, cp0_name}

@@ -1,5 +1,8 @@
 -- What is printed of an instruction is read back as the instruction's word.
 use Rattle.std.proofs.Common.{◌≡◌, ◌<◌, ◌≤◌, ◌+◌, ◌-◌, ◌*◌, ◌/◌, ◌%◌, ◌^◌, ◌==◌, ℕ, Bool, true, false, List, [], ◌∷◌, codes, length, nat_lt, if◌then◌else◌, refl, ap, sym, ◌∙◌, subst, arith, eq-eqb, eqb-true}
+use Rattle.mips3_code.proofs.Reach.{branch_target_below, jump_target_below}
+use Rattle.mips3_code.specs.Targets.{branch_target, jump_target}
+use Rattle.r4_words.specs.Words.{sext16}
 use Rattle.mips3_table.specs.declared.instruction.Inst.{Inst}
 use Rattle.mips3_table.specs.declared.operand_forms.Form.{Form}
 use Rattle.mips3_table.specs.declared.operand_forms.Form.TheVariants.{Target, CompareBranch, ZeroBranch, SignedImmediate, UnsignedImmediate, UpperImmediate, Memory, CacheOperation, CoprocessorNumber, CoprocessorMemory, Shift, ShiftByRegister, Source, JumpAndLinkRegister, Code, NoOperands, Destination, TwoSources, ThreeRegisters, TrapRegisters, TrapImmediate, Cp0Move}
@@ -11,53 +14,28 @@ use Rattle.mips_text.specs.declared.reason.AsmWhy.TheVariants as why
 use Rattle.mips_text.specs.declared.token.TokenKind.TheVariants.{Name}
 use Rattle.mips_text.specs.Tokens.{tokens_of, cut_from, start_of}
 use Rattle.mips_text.specs.Values.{hex_text}
-use Rattle.mips_text.specs.Forms.{operands_of, row_named, statement_named, Instruction}
-use Rattle.mips_text.specs.Printed.{sign_extended, branch_target, jump_target, by_form, text_of}
-use Rattle.mips_text.specs.Line.{Words, read_line, read_statement, operands_fault, item_of, read_cut, parts_of, fitted, bare, natural, number_value}
-use Rattle.mips_text.specs.Coded.{Lacking, distance_to, word_number, word_of, branch_to, jump_to, coded_at}
+use Rattle.mips_text.specs.declared.statement.Statement.TheVariants.{Instruction}
+use Rattle.mips3_table.specs.Matching.{row_named}
+use Rattle.mips_text.specs.Forms.{operands_of, statement_named}
+use Rattle.mips_text.specs.Printed.{AllFit, by_form, text_of}
+use Rattle.mips_text.proofs.Reached.{distance_found, number_found}
+use Rattle.mips_text.proofs.FormOperands.{fit_form, few_operands}
+use Rattle.mips_text.specs.declared.item.Item.TheVariants.{Words}
+use Rattle.mips_text.specs.Line.{read_line, read_statement, operands_fault, item_of, read_cut, parts_of, fitted, bare, natural, number_value, item_by}
+use Rattle.mips_text.specs.Coded.{word_of, word_with, branch_to, jump_to, coded_at}
 use Rattle.mips_text.specs.ReadBack.{ReadsAs}
 use Rattle.mips_text.proofs.Pieces.{piece, row_piece}
 use Rattle.mips_text.proofs.ReadValues.{name_read}
-use Rattle.mips_text.proofs.Places.{item_by, item_of_row, item_of_spelled, cut_spelled}
-use Rattle.mips_text.proofs.OperandPlaces.{places_of, AllFit, expected_places, colon_places, cut_line}
-use Rattle.mips_text.proofs.OperandValues.{agree_places, all_taken, with_operands_back, target_back, branch_target_below, jump_target_below}
-
--- the fields of an instruction that a form uses are in range for its operands
-fit_form : (form : Form) (inst : Inst) → FitsWidths (widths_of form) inst → AllFit inst (operands_of form)
-fit_form Target inst fits = (fits.imm, tt)
-fit_form CompareBranch inst fits = (fits.rs, (fits.rt, (fits.imm, tt)))
-fit_form ZeroBranch inst fits = (fits.rs, (fits.imm, tt))
-fit_form SignedImmediate inst fits = (fits.rt, (fits.rs, (fits.imm, tt)))
-fit_form UnsignedImmediate inst fits = (fits.rt, (fits.rs, ((fits.imm, omega arith), tt)))
-fit_form UpperImmediate inst fits = (fits.rt, ((fits.imm, omega arith), tt))
-fit_form Memory inst fits = (fits.rt, ((fits.imm, fits.rs), tt))
-fit_form CacheOperation inst fits = ((fits.rt, omega arith), ((fits.imm, fits.rs), tt))
-fit_form CoprocessorNumber inst fits = ((fits.imm, omega arith), tt)
-fit_form CoprocessorMemory inst fits = ((fits.rt, omega arith), ((fits.imm, fits.rs), tt))
-fit_form Shift inst fits = (fits.rd, (fits.rt, ((fits.sa, omega arith), tt)))
-fit_form ShiftByRegister inst fits = (fits.rd, (fits.rt, (fits.rs, tt)))
-fit_form Source inst fits = (fits.rs, tt)
-fit_form JumpAndLinkRegister inst fits = (fits.rd, (fits.rs, tt))
-fit_form Code inst fits = ((fits.imm, omega arith), tt)
-fit_form NoOperands inst fits = tt
-fit_form Destination inst fits = (fits.rd, tt)
-fit_form TwoSources inst fits = (fits.rs, (fits.rt, tt))
-fit_form ThreeRegisters inst fits = (fits.rd, (fits.rs, (fits.rt, tt)))
-fit_form TrapRegisters inst fits = (fits.rs, (fits.rt, ((fits.imm, omega arith), tt)))
-fit_form TrapImmediate inst fits = (fits.rs, (fits.imm, tt))
-fit_form Cp0Move inst fits = (fits.rt, (fits.rd, tt))
-
--- a form has three operands at most
-few_operands : (form : Form) → length (operands_of form) ≤ 3
-few_operands Target = omega arith
-few_operands _ = omega arith
+use Rattle.mips_text.proofs.Places.{target_placed, item_placed, item_of_spelled, cut_spelled}
+use Rattle.mips_text.proofs.OperandPlaces.{places_of, expected_places, colon_places, cut_line}
+use Rattle.mips_text.proofs.OperandValues.{agree_places, all_taken, with_operands_back, target_back}
 
 -- an instruction by its fields
 same_fields : (one other : Inst) → one.row ≡ other.row → one.rs ≡ other.rs → one.rt ≡ other.rt → one.rd ≡ other.rd → one.sa ≡ other.sa → one.imm ≡ other.imm → one ≡ other
 same_fields one other row rs rt rd sa imm = λ i. record { row = row i; rs = rs i; rt = rt i; rd = rd i; sa = sa i; imm = imm i }
 
 -- 16 bits, extended and cut off again
-half_back : (half : ℕ) → half < 2 ^ 16 → sign_extended half % 2 ^ 16 ≡ half
+half_back : (half : ℕ) → half < 2 ^ 16 → sext16 half % 2 ^ 16 ≡ half
 half_back half lt = by_low (nat_lt half (2 ^ 15))
   where
     by_low : (low : Bool) → (if low then half else half + (2 ^ 32 - 2 ^ 16)) % 2 ^ 16 ≡ half
@@ -90,52 +68,34 @@ read_fields Target inst fits = same_fields (read_by Target inst) (record inst { 
 read_fields form inst fits =
     same_fields (read_by form inst) (record inst { imm = number_said form inst.imm }) refl (omega arith) (omega arith) (omega arith) (omega arith) (number_read form inst fits)
 
--- the number of a jump, and the distance of a branch, by the address that was printed
-word_number_back : (at number target : ℕ) → number < 2 ^ 26 → target ≡ jump_target at number → word_number target ≡ number
-unfolding jump_target word_number
-word_number_back at number target lt is = omega arith
-
-distance_by : (at half sum : ℕ) (low : Bool) → half < 2 ^ 16 → at < 2 ^ 32 → sum ≡ (if low then half else half + (2 ^ 32 - 2 ^ 16)) →
-    ((at + 4 + 4 * sum) % 2 ^ 32 + 2 ^ 32 - (at + 4) % 2 ^ 32) % 2 ^ 32 / 4 % 2 ^ 16 ≡ half
-distance_by at half sum true lt within is = omega arith
-distance_by at half sum false lt within is = omega arith
-
-distance_back : (at half target : ℕ) → half < 2 ^ 16 → at < 2 ^ 32 → target ≡ branch_target at half → distance_to at target ≡ half
-unfolding branch_target distance_to
-distance_back at half target lt within is =
-    ap (λ t. (t + 2 ^ 32 - (at + 4) % 2 ^ 32) % 2 ^ 32 / 4 % 2 ^ 16) is ∙ distance_by at half (sign_extended half) (nat_lt half (2 ^ 15)) lt within refl
-
--- so a jump and a branch reach that address
-jump_back : (read inst : Inst) (at target : ℕ) → read ≡ record inst { imm = 0 } → inst.imm < 2 ^ 26 → target ≡ jump_target at inst.imm → jump_to read at target ≡ word_of inst
+-- a jump and a branch reach the address that was printed
+jump_back : (read inst : Inst) (at place target : ℕ) → read ≡ record inst { imm = 0 } → inst.imm < 2 ^ 26 → place ≡ at → target ≡ jump_target at inst.imm → jump_to read place target ≡ word_of inst
 unfolding jump_to
-jump_back read inst at target same lt is =
-    let number : word_number target ≡ inst.imm = word_number_back at inst.imm target lt is in
-    let reached : (jump_target at inst.imm == target) ≡ true = eq-eqb (jump_target at inst.imm) target (sym is) in
-    ap (λ n. if jump_target at n == target then word_of (record read { imm = n }) else Lacking why.Range) number
-    ∙ ap (λ b. if b then word_of (record read { imm = inst.imm }) else Lacking why.Range) reached
+jump_back read inst at place target same lt here is =
+    ap (λ a. jump_to read a target) here ∙ ap (word_with read) (number_found at target inst.imm (record { small = lt; reaches = sym is }))
     ∙ ap (λ (r : Inst). word_of (record r { imm = inst.imm })) same
 
-branch_back : (read inst : Inst) (at target : ℕ) → read ≡ record inst { imm = 0 } → inst.imm < 2 ^ 16 → at < 2 ^ 32 → target ≡ branch_target at inst.imm → branch_to read at target ≡ word_of inst
+branch_back : (read inst : Inst) (at place target : ℕ) → read ≡ record inst { imm = 0 } → inst.imm < 2 ^ 16 → place ≡ at → target ≡ branch_target at inst.imm → branch_to read place target ≡ word_of inst
 unfolding branch_to
-branch_back read inst at target same lt within is =
-    let number : distance_to at target ≡ inst.imm = distance_back at inst.imm target lt within is in
-    let reached : (branch_target at inst.imm == target) ≡ true = eq-eqb (branch_target at inst.imm) target (sym is) in
-    ap (λ n. if branch_target at n == target then word_of (record read { imm = n }) else Lacking why.Range) number
-    ∙ ap (λ b. if b then word_of (record read { imm = inst.imm }) else Lacking why.Range) reached
+branch_back read inst at place target same lt here is =
+    ap (λ a. branch_to read a target) here ∙ ap (word_with read) (distance_found at target inst.imm (record { small = lt; reaches = sym is }))
     ∙ ap (λ (r : Inst). word_of (record r { imm = inst.imm })) same
 
 -- what the operands of a form put is the word
 word_back : (form : Form) (inst : Inst) (at : ℕ) (labels : List (List ℕ × ℕ)) → FitsWidths (widths_of form) inst → at < 2 ^ 32 →
-    coded_at labels at (item_by form (read_by form inst) (places_of inst at (operands_of form))) ≡ word_of inst
+    coded_at labels at (item_by (operands_of form) (read_by form inst) (target_placed (places_of inst at (operands_of form)))) ≡ word_of inst
 unfolding coded_at
 word_back Target inst at labels fits within =
-    jump_back (read_by Target inst) inst at (natural (number_value (hex_text (jump_target at inst.imm)))) (read_fields Target inst fits) fits.imm
+    let here : at % 2 ^ 32 ≡ at = omega arith in
+    jump_back (read_by Target inst) inst at (at % 2 ^ 32) (natural (number_value (hex_text (jump_target at inst.imm)))) (read_fields Target inst fits) fits.imm here
     (target_back (jump_target at inst.imm) (jump_target_below at inst.imm fits.imm))
 word_back CompareBranch inst at labels fits within =
-    branch_back (read_by CompareBranch inst) inst at (natural (number_value (hex_text (branch_target at inst.imm)))) (read_fields CompareBranch inst fits) fits.imm within
+    let here : at % 2 ^ 32 ≡ at = omega arith in
+    branch_back (read_by CompareBranch inst) inst at (at % 2 ^ 32) (natural (number_value (hex_text (branch_target at inst.imm)))) (read_fields CompareBranch inst fits) fits.imm here
     (target_back (branch_target at inst.imm) (branch_target_below at inst.imm))
 word_back ZeroBranch inst at labels fits within =
-    branch_back (read_by ZeroBranch inst) inst at (natural (number_value (hex_text (branch_target at inst.imm)))) (read_fields ZeroBranch inst fits) fits.imm within
+    let here : at % 2 ^ 32 ≡ at = omega arith in
+    branch_back (read_by ZeroBranch inst) inst at (at % 2 ^ 32) (natural (number_value (hex_text (branch_target at inst.imm)))) (read_fields ZeroBranch inst fits) fits.imm here
     (target_back (branch_target at inst.imm) (branch_target_below at inst.imm))
 word_back form inst at labels fits within = ap word_of (read_fields form inst fits)
 
@@ -152,13 +112,13 @@ form_read inst at is within =
     let expected = expected_places inst at operands in
     let cut = cut_line (piece Name name) inst at operands (row_piece inst.row is.row) fit (few_operands form) in
     record {
-      item = item_of_row inst.row places;
+      item = item_placed inst.row places;
       is_read =
           ap (λ r. read_cut line r (parts_of line (tokens_of line).tokens)) cut.0
-          ∙ cut_spelled line name (Instruction inst.row) places (item_of_row inst.row places) (tokens_of line).tokens cut.1 (name_read inst.row is.row) (sym expected) (agree_places inst at operands fit)
+          ∙ cut_spelled line name (Instruction inst.row) places (item_placed inst.row places) (tokens_of line).tokens cut.1 (name_read inst.row is.row) (sym expected) (agree_places inst at operands fit)
           (colon_places inst at operands) (λ tokens spells. item_of_spelled line inst.row places tokens spells expected);
       is_word = λ labels.
-          ap (λ read. coded_at labels at (item_by form (fitted (widths_of form) read) places)) (with_operands_back inst at operands (bare inst.row) fit)
+          ap (λ read. coded_at labels at (item_by (operands_of form) (fitted (widths_of form) read) (target_placed places))) (with_operands_back inst at operands (bare inst.row) fit)
           ∙ word_back form inst at labels is.fields within;
     }
 

@@ -3,8 +3,13 @@ use Rattle.std.proofs.Common.{◌≡◌, ◌<◌, ◌-◌, ◌^◌, ℕ, List, [
 use Rattle.mips_text.specs.declared.token.TokenKind.TheVariants.{Name, Number}
 use Rattle.mips_text.specs.Tokens.{tokens_of}
 use Rattle.mips_text.specs.Values.{hex_text}
-use Rattle.mips_text.specs.Forms.{Imm, ANumber, Word, either_sign, in_range, token_text, statement_named}
-use Rattle.mips_text.specs.Line.{Words, read_line, read_cut, parts_of, in_bits, number_value, with_number, item_of}
+use Rattle.mips_text.specs.declared.operand.Field.TheVariants.{Imm}
+use Rattle.mips_text.specs.declared.operand.Expected.TheVariants.{ANumber}
+use Rattle.mips_text.specs.declared.statement.Statement.TheVariants.{Word}
+use Rattle.mips_text.specs.declared.operand.Range.TheVariants.{EitherSign}
+use Rattle.mips_text.specs.Forms.{in_range, token_text, statement_named}
+use Rattle.mips_text.specs.declared.item.Item.TheVariants.{Words}
+use Rattle.mips_text.specs.Line.{read_line, read_cut, parts_of, in_bits, number_value, with_number, item_of}
 use Rattle.mips_text.specs.Coded.{coded_at}
 use Rattle.mips_text.specs.ReadBack.{ReadsAs}
 use Rattle.mips_text.proofs.Pieces.{Piece, piece, Spells, name_piece, hexadecimal_piece, line_of_more}
@@ -14,10 +19,10 @@ use Rattle.mips_text.proofs.OperandValues.{number_back}
 
 -- the number of a word
 abbrev word_place : ℕ → Place
-word_place word = place (ANumber Imm (either_sign 32)) Number (hex_text word)
+word_place word = place (ANumber Imm (EitherSign 32)) Number (hex_text word)
 
 word_agrees : (word : ℕ) → word < 2 ^ 32 → Agrees (word_place word)
-word_agrees word small = record { known = refl; kind = refl; range = ap (in_range (either_sign 32)) (hexadecimal_read word) ∙ le-leb word (2 ^ 32 - 1) (omega arith) }
+word_agrees word small = record { known = refl; kind = refl; range = ap (in_range (EitherSign 32)) (hexadecimal_read word) ∙ le-leb word (2 ^ 32 - 1) (omega arith) }
 
 word_named : statement_named (codes ".word") ≡ Some Word
 unfolding statement_named

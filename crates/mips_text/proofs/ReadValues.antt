@@ -3,13 +3,16 @@ use Rattle.std.proofs.Common.{◌≡◌, ◌<◌, ◌+◌, ◌-◌, ◌^◌, ◌
 use Rattle.std.proofs.lemmas.Bool.{cond-false, cond-true, and_parts}
 use Rattle.std.proofs.lemmas.List.Sums.{AllPass-from_list_all}
 use Rattle.std.proofs.lemmas.Grind.{common_steps}
-use Rattle.r4_words.specs.Texts.{dec_of}
+use Rattle.r4_words.specs.Texts.{dec_of, is_digit}
 use Rattle.mips3_table.specs.Rows.{Row, rows, row_at, no_row}
 use Rattle.mips3_table.proofs.Apart.{rows_count}
-use Rattle.mips_text.specs.Tokens.{is_digit, is_hexadecimal}
+use Rattle.mips_text.specs.Tokens.{is_hexadecimal}
 use Rattle.mips_text.specs.Names.{register_names, register_name, register_of, cp0_names, cp0_name, cp0_register_of}
 use Rattle.mips_text.specs.Values.{number_of, magnitude_of, hex_digits_of, hex_text, signed_text}
-use Rattle.mips_text.specs.Forms.{Statement, Instruction, row_named, statement_named}
+use Rattle.mips_text.specs.declared.statement.Statement.{Statement}
+use Rattle.mips_text.specs.declared.statement.Statement.TheVariants.{Instruction}
+use Rattle.mips3_table.specs.Matching.{row_named}
+use Rattle.mips_text.specs.Forms.{statement_named}
 use Rattle.mips_text.proofs.Naming.{register_count, cp0_count}
 use Rattle.mips_text.proofs.DigitTexts.{some_decimal, all_decimal, some_hexadecimal, all_hexadecimal, number_of_decimal, number_of_hexadecimal}
 use Rattle.mips_text.proofs.Starts.{no_hexadecimal, is_hexadecimal_of}

@@ -4,9 +4,10 @@ use Rattle.std.specs.List.{list_all, prefix_len}
 use Rattle.std.proofs.lemmas.Bool.{and_parts, cond-true, cond-false, both_ways, false_from_ne_true}
 use Rattle.std.proofs.lemmas.List.Sums.{AllPass-from_list_all}
 use Rattle.std.proofs.lemmas.Grind.{common_steps}
+use Rattle.r4_words.specs.Texts.{is_digit}
 use Rattle.mips_text.specs.declared.token.TokenKind.TheVariants.{Name, Number, Mark}
 use Rattle.mips_text.specs.declared.token.Start.TheVariants.{Blank, Begins}
-use Rattle.mips_text.specs.Tokens.{start_of, is_blank, is_mark, is_digit, is_hex_digit, is_name_start, is_name_byte, is_hexadecimal, number_length}
+use Rattle.mips_text.specs.Tokens.{start_of, is_blank, is_mark, is_hex_digit, is_name_start, is_name_byte, is_hexadecimal, number_length}
 
 -- a byte that ends a name and a number: none (0), a blank, a comma, a parenthesis
 abbrev pub is_end : ℕ → Bool

@@ -1,43 +1,54 @@
 -- The bytes that a statement puts at an address, or the reason for which it has none.
 -- Source: MIPS R4000 Microprocessor User's Manual, 2nd edition (Heinrich), appendix A, for the targets of branches and
 -- jumps; the further statements and the directives are this project's own.
-use Rattle.std.specs.Prelude.{ℕ, ◌+◌, ◌-◌, ◌/◌, ◌%◌, ◌^◌, ◌==◌, if◌then◌else◌, List, [], ◌∷◌, ◌++◌, Option, Some, None, bytes_eq}
+use Rattle.std.specs.Prelude.{ℕ, zero, suc, Bool, ◌+◌, ◌-◌, ◌/◌, ◌%◌, ◌^◌, ◌==◌, if◌then◌else◌, List, [], ◌∷◌, ◌++◌, Option, Some, None, bytes_eq}
 use Rattle.flat_ram.specs.Bytes.{bytes_of, zeros_of}
 use Rattle.mips3_table.specs.declared.instruction.Inst.{Inst}
 use Rattle.mips3_code.specs.Coding.{encoded}
 use Rattle.mips_text.specs.declared.reason.AsmWhy.{AsmWhy}
 use Rattle.mips_text.specs.declared.reason.AsmWhy.TheVariants as why
-use Rattle.mips_text.specs.Printed.{branch_target, jump_target}
-use Rattle.mips_text.specs.Line.{Target, Address, Label, Item, Plain, BranchTo, JumpTo, LoadNumber, LoadLabel, Words, Bytes, Zeros, Origin, Aligned, bare, lui_row, ori_row}
+use Rattle.mips3_code.specs.Targets.{branch_target, jump_target}
+use Rattle.mips_text.specs.Names.{or_else}
+use Rattle.mips_text.specs.declared.item.Target.{Target}
+use Rattle.mips_text.specs.declared.item.Target.TheVariants.{Address, Label}
+use Rattle.mips_text.specs.declared.item.Item.{Item}
+use Rattle.mips_text.specs.declared.item.Item.TheVariants.{Plain, BranchTo, JumpTo, LoadNumber, LoadLabel, Words, Bytes, Zeros, Origin, Aligned}
+use Rattle.mips_text.specs.Line.{bare, lui_row, ori_row}
 
 -- the bytes of a statement, or the reason for which it has none
 pub data Coded : Type 0 where
   Given : List ℕ → Coded
   Lacking : AsmWhy → Coded
 
--- the number of 16 bits by which a branch at an address goes to a target, if it can: words from its delay slot
-unfoldable pub distance_to : ℕ → ℕ → ℕ
-distance_to at target = (target + 2 ^ 32 - (at + 4) % 2 ^ 32) % 2 ^ 32 / 4 % 2 ^ 16
+-- the first number below a limit that passes a test
+unfoldable pub first_below : ℕ → (ℕ → Bool) → Option ℕ
+first_below zero test = None
+first_below (suc n) test = or_else (first_below n test) (if test n then Some n else None)
 
--- the number of 26 bits by which a jump goes to a target, if it can: the word within 256 MB
-unfoldable pub word_number : ℕ → ℕ
-word_number target = target % 2 ^ 28 / 4
+-- the number of 16 bits by which a branch at an address goes to a target, if it can
+unfoldable pub distance_to : ℕ → ℕ → Option ℕ
+distance_to at target = first_below (2 ^ 16) (λ distance. branch_target at distance == target)
+
+-- the number of 26 bits by which a jump at an address goes to a target, if it can
+unfoldable pub word_number : ℕ → ℕ → Option ℕ
+word_number at target = first_below (2 ^ 26) (λ number. jump_target at number == target)
 
 -- the bytes of an instruction
 abbrev pub word_of : Inst → Coded
 word_of inst = Given (bytes_of (encoded inst))
 
--- a branch to an address reaches it where its number leads there
-unfoldable pub branch_to : Inst → ℕ → ℕ → Coded
-branch_to inst at target =
-    if branch_target at (distance_to at target) == target then word_of (record inst { imm = distance_to at target })
-    else Lacking why.Range
+-- the bytes of an instruction with the number that reaches its target, if one does
+abbrev pub word_with : Inst → Option ℕ → Coded
+word_with inst (Some number) = word_of (record inst { imm = number })
+word_with inst None = Lacking why.Range
 
--- the same of a jump
+-- a branch to an address, at a place of 32 bits
+unfoldable pub branch_to : Inst → ℕ → ℕ → Coded
+branch_to inst at target = word_with inst (distance_to at target)
+
+-- a jump to one
 unfoldable pub jump_to : Inst → ℕ → ℕ → Coded
-jump_to inst at target =
-    if jump_target at (word_number target) == target then word_of (record inst { imm = word_number target })
-    else Lacking why.Range
+jump_to inst at target = word_with inst (word_number at target)
 
 -- the address of a label, by the first pair that has its name
 abbrev pub label_at : List (List ℕ × ℕ) → List ℕ → Option ℕ
@@ -74,11 +85,11 @@ abbrev pub padding_to : Option ℕ → ℕ → ℕ
 padding_to (Some power) address = padding power address
 padding_to None address = 0
 
--- the bytes of a statement at an address, with all labels known
+-- The bytes of a statement at an address, with all labels known. Branches and jumps go from an address of 32 bits.
 unfoldable pub coded_at : List (List ℕ × ℕ) → ℕ → Item → Coded
 coded_at labels address (Plain inst) = word_of inst
-coded_at labels address (BranchTo inst target) = where_known (address_of labels target) (branch_to inst address)
-coded_at labels address (JumpTo inst target) = where_known (address_of labels target) (jump_to inst address)
+coded_at labels address (BranchTo inst target) = where_known (address_of labels target) (branch_to inst (address % 2 ^ 32))
+coded_at labels address (JumpTo inst target) = where_known (address_of labels target) (jump_to inst (address % 2 ^ 32))
 coded_at labels address (LoadNumber register number) = Given (loading register number)
 coded_at labels address (LoadLabel register name) = where_known (label_at labels name) (λ number. Given (loading register number))
 coded_at labels address (Words words) = Given (bytes_of_words words)

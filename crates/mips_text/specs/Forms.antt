@@ -4,39 +4,23 @@
 use Rattle.std.specs.Prelude.{ℕ, ℤ, pos, negsuc, int_le, ◌-◌, ◌^◌, ◌==◌, Bool, true, false, ◌&&◌, if◌then◌else◌, List, [], ◌∷◌, ◌++◌, slice_range, slice_index, is_some, is_none, Option, Some, codes, bytes_eq, position, option_map}
 use Rattle.mips3_table.specs.declared.operand_forms.Form.{Form}
 use Rattle.mips3_table.specs.declared.operand_forms.Form.TheVariants.{Target, CompareBranch, ZeroBranch, SignedImmediate, UnsignedImmediate, UpperImmediate, Memory, CacheOperation, CoprocessorNumber, CoprocessorMemory, Shift, ShiftByRegister, Source, JumpAndLinkRegister, Code, NoOperands, Destination, TwoSources, ThreeRegisters, TrapRegisters, TrapImmediate, Cp0Move}
-use Rattle.mips3_table.specs.Rows.{rows, row_at}
+use Rattle.mips3_table.specs.Rows.{row_at}
+use Rattle.mips3_table.specs.Matching.{row_named}
 use Rattle.mips_text.specs.declared.token.Token.{Token}
 use Rattle.mips_text.specs.declared.token.TokenKind.{TokenKind}
 use Rattle.mips_text.specs.declared.token.TokenKind.TheVariants.{Name, Number, Text, Mark}
 use Rattle.mips_text.specs.Names.{register_of, cp0_register_of}
 use Rattle.mips_text.specs.Values.{number_of, bytes_of_text}
-
--- A field of an instruction. In the further statements Imm stands for the one number, target, label or text.
-pub data Field : Type 0 where
-  Rs : Field
-  Rt : Field
-  Rd : Field
-  Sa : Field
-  Imm : Field
-
--- An operand as a text shows it.
-pub data Operand : Type 0 where
-  -- a general register in this field
-  Register : Field → Operand
-  -- the register of coprocessor 0 in rd
-  Cp0Register : Operand
-  -- a number of so many bits without a sign, printed in decimal
-  Decimal : Field → ℕ → Operand
-  -- a number of so many bits without a sign, printed in hexadecimal
-  Hexadecimal : Field → ℕ → Operand
-  -- the number in imm, 16 bits in two's complement, printed in decimal
-  Signed : Operand
-  -- `off(rs)`: the offset in imm, as a Signed, and the base
-  Based : Operand
-  -- where a branch goes, by its distance in imm
-  BranchTarget : Operand
-  -- where a jump goes, by its number of 26 bits in imm
-  JumpTarget : Operand
+use Rattle.mips_text.specs.declared.operand.Field.{Field}
+use Rattle.mips_text.specs.declared.operand.Field.TheVariants.{Rs, Rt, Rd, Sa, Imm}
+use Rattle.mips_text.specs.declared.operand.Operand.{Operand}
+use Rattle.mips_text.specs.declared.operand.Operand.TheVariants.{Register, Cp0Register, Decimal, Hexadecimal, Signed, Based, BranchTarget, JumpTarget}
+use Rattle.mips_text.specs.declared.operand.Range.{Range}
+use Rattle.mips_text.specs.declared.operand.Range.TheVariants.{Unsigned, WithSign, EitherSign, AnyNumber}
+use Rattle.mips_text.specs.declared.operand.Expected.{Expected}
+use Rattle.mips_text.specs.declared.operand.Expected.TheVariants.{ARegister, ACp0Register, ANumber, ATarget, ALabel, AText, AMark}
+use Rattle.mips_text.specs.declared.statement.Statement.{Statement}
+use Rattle.mips_text.specs.declared.statement.Statement.TheVariants.{Instruction, Li, La, Move, Nop, Branch, Org, Word, Byte, Space, Align, Ascii}
 
 -- The operands of each form, in the order of the text.
 abbrev pub operands_of : Form → List Operand
@@ -63,48 +47,14 @@ operands_of TrapRegisters = Register Rs ∷ Register Rt ∷ Hexadecimal Imm 10 �
 operands_of TrapImmediate = Register Rs ∷ Signed ∷ []
 operands_of Cp0Move = Register Rt ∷ Cp0Register ∷ []
 
--- The numbers that may stand at a place.
-pub data Range : Type 0 where
-  Between : ℤ → ℤ → Range
-  AnyNumber : Range
-
--- 0 to 2 ^ width - 1
-abbrev pub unsigned : ℕ → Range
-unsigned width = Between (pos 0) (pos (2 ^ width - 1))
-
--- -2 ^ (width - 1) to 2 ^ (width - 1) - 1
-abbrev pub signed : ℕ → Range
-signed width = Between (negsuc (2 ^ (width - 1) - 1)) (pos (2 ^ (width - 1) - 1))
-
--- of either sign: -2 ^ (width - 1) to 2 ^ width - 1
-abbrev pub either_sign : ℕ → Range
-either_sign width = Between (negsuc (2 ^ (width - 1) - 1)) (pos (2 ^ width - 1))
-
--- A token that a form expects, and the field that it gives.
-pub data Expected : Type 0 where
-  -- a Name, which is a general register
-  ARegister : Field → Expected
-  -- a Name, which is a register of coprocessor 0
-  ACp0Register : Field → Expected
-  -- a Number of this range
-  ANumber : Field → Range → Expected
-  -- a Name, which is a label, or a Number, which is an address
-  ATarget : Expected
-  -- a Name, which is a label
-  ALabel : Expected
-  -- a Text
-  AText : Expected
-  -- this mark
-  AMark : ℕ → Expected
-
 -- the tokens of an operand
 abbrev pub expected_of : Operand → List Expected
 expected_of (Register field) = ARegister field ∷ []
 expected_of Cp0Register = ACp0Register Rd ∷ []
-expected_of (Decimal field width) = ANumber field (unsigned width) ∷ []
-expected_of (Hexadecimal field width) = ANumber field (unsigned width) ∷ []
-expected_of Signed = ANumber Imm (signed 16) ∷ []
-expected_of Based = ANumber Imm (signed 16) ∷ AMark 40 ∷ ARegister Rs ∷ AMark 41 ∷ []
+expected_of (Decimal field width) = ANumber field (Unsigned width) ∷ []
+expected_of (Hexadecimal field width) = ANumber field (Unsigned width) ∷ []
+expected_of Signed = ANumber Imm (WithSign 16) ∷ []
+expected_of Based = ANumber Imm (WithSign 16) ∷ AMark 40 ∷ ARegister Rs ∷ AMark 41 ∷ []
 expected_of BranchTarget = ATarget ∷ []
 expected_of JumpTarget = ATarget ∷ []
 
@@ -121,45 +71,20 @@ pub data Shape : Type 0 where
   -- one Number of this range or more, with commas between them
   Numbers : Range → Shape
 
--- The statements of a source.
-pub data Statement : Type 0 where
-  -- an instruction, by its row's number
-  Instruction : ℕ → Statement
-  -- `li rt,number`, `la rt,label`: a lui and an ori
-  Li : Statement
-  La : Statement
-  -- `move rd,rs`: or rd,rs,zero
-  Move : Statement
-  -- the word 0
-  Nop : Statement
-  -- `b target`: beq zero,zero,target
-  Branch : Statement
-  -- `.org ADDRESS`, `.word` and `.byte` with lists, `.space N`, `.align N`, `.ascii TEXT`
-  Org : Statement
-  Word : Statement
-  Byte : Statement
-  Space : Statement
-  Align : Statement
-  Ascii : Statement
-
 -- The shape of each statement.
 abbrev pub shape_of : Statement → Shape
 shape_of (Instruction row) = Tokens (separated (operands_of (row_at row).form))
-shape_of Li = Tokens (ARegister Rt ∷ AMark 44 ∷ ANumber Imm (either_sign 32) ∷ [])
+shape_of Li = Tokens (ARegister Rt ∷ AMark 44 ∷ ANumber Imm (EitherSign 32) ∷ [])
 shape_of La = Tokens (ARegister Rt ∷ AMark 44 ∷ ALabel ∷ [])
 shape_of Move = Tokens (ARegister Rd ∷ AMark 44 ∷ ARegister Rs ∷ [])
 shape_of Nop = Tokens []
 shape_of Branch = Tokens (ATarget ∷ [])
-shape_of Org = Tokens (ANumber Imm (unsigned 32) ∷ [])
-shape_of Word = Numbers (either_sign 32)
-shape_of Byte = Numbers (either_sign 8)
-shape_of Space = Tokens (ANumber Imm (unsigned 32) ∷ [])
+shape_of Org = Tokens (ANumber Imm (Unsigned 32) ∷ [])
+shape_of Word = Numbers (EitherSign 32)
+shape_of Byte = Numbers (EitherSign 8)
+shape_of Space = Tokens (ANumber Imm (Unsigned 32) ∷ [])
 shape_of Align = Tokens (ANumber Imm AnyNumber ∷ [])
 shape_of Ascii = Tokens (AText ∷ [])
-
--- the row of this name
-unfoldable pub row_named : List ℕ → Option ℕ
-row_named name = position (λ row. bytes_eq name row.name) rows
 
 -- the directive or the instruction of a name, None where it has neither
 abbrev pub directive_of : List ℕ → Option Statement
@@ -206,11 +131,13 @@ has_kind expected kind text = false
 
 -- a number lies in a range
 abbrev pub in_range : Range → ℤ → Bool
-in_range (Between low high) n = int_le low n && int_le n high
+in_range (Unsigned width) n = int_le (pos 0) n && int_le n (pos (2 ^ width - 1))
+in_range (WithSign width) n = int_le (negsuc (2 ^ (width - 1) - 1)) n && int_le n (pos (2 ^ (width - 1) - 1))
+in_range (EitherSign width) n = int_le (negsuc (2 ^ (width - 1) - 1)) n && int_le n (pos (2 ^ width - 1))
 in_range AnyNumber n = true
 
 -- a Number lies in its range; the address of a target is one of 32 bits
 abbrev pub has_range : Expected → TokenKind → List ℕ → Bool
 has_range (ANumber field range) Number text = in_range range (number_of text)
-has_range ATarget Number text = in_range (unsigned 32) (number_of text)
+has_range ATarget Number text = in_range (Unsigned 32) (number_of text)
 has_range expected kind text = true

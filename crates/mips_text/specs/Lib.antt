@@ -6,3 +6,4 @@ pub mod Printed
 pub mod Line
 pub mod Coded
 pub mod ReadBack
+pub mod BytesOf

@@ -1,15 +1,20 @@
 -- The printed text of an instruction.
 -- Source: the operand forms of the MIPS R4000 Microprocessor User's Manual, 2nd edition (Heinrich), appendix A, and of
 -- its jumps and branches the target's address.
-use Rattle.std.specs.Prelude.{ℕ, ◌+◌, ◌-◌, ◌*◌, ◌/◌, ◌%◌, ◌^◌, ◌==◌, nat_lt, if◌then◌else◌, List, [], ◌∷◌, ◌++◌, map, codes, Option, Some, None}
+use Rattle.std.specs.Prelude.{ℕ, ◌<◌, ◌≤◌, ◌+◌, ◌-◌, ◌*◌, ◌/◌, ◌%◌, ◌^◌, ◌==◌, nat_lt, if◌then◌else◌, List, [], ◌∷◌, ◌++◌, map, codes, Option, Some, None}
 use Rattle.r4_words.specs.Texts.{dec_of}
 use Rattle.mips3_table.specs.declared.instruction.Inst.{Inst}
 use Rattle.mips3_table.specs.declared.operand_forms.Form.{Form}
 use Rattle.mips3_table.specs.Rows.{row_at}
 use Rattle.mips3_code.specs.Coding.{decoded, encoded}
+use Rattle.mips3_code.specs.Targets.{branch_target, jump_target}
 use Rattle.mips_text.specs.Names.{register_name, cp0_name}
 use Rattle.mips_text.specs.Values.{hex_text, signed_text}
-use Rattle.mips_text.specs.Forms.{Field, Rs, Rt, Rd, Sa, Imm, Operand, Register, Cp0Register, Decimal, Hexadecimal, Signed, Based, BranchTarget, JumpTarget, operands_of}
+use Rattle.mips_text.specs.declared.operand.Field.{Field}
+use Rattle.mips_text.specs.declared.operand.Field.TheVariants.{Rs, Rt, Rd, Sa, Imm}
+use Rattle.mips_text.specs.declared.operand.Operand.{Operand}
+use Rattle.mips_text.specs.declared.operand.Operand.TheVariants.{Register, Cp0Register, Decimal, Hexadecimal, Signed, Based, BranchTarget, JumpTarget}
+use Rattle.mips_text.specs.Forms.{operands_of}
 
 -- what a field of an instruction has
 abbrev pub field_of : Field → Inst → ℕ
@@ -18,18 +23,6 @@ field_of Rt inst = inst.rt
 field_of Rd inst = inst.rd
 field_of Sa inst = inst.sa
 field_of Imm inst = inst.imm
-
--- 16 bits in two's complement, extended to 32
-abbrev pub sign_extended : ℕ → ℕ
-sign_extended half = if nat_lt half (2 ^ 15) then half else half + (2 ^ 32 - 2 ^ 16)
-
--- where a branch at this address goes: so many words from its delay slot
-unfoldable pub branch_target : ℕ → ℕ → ℕ
-branch_target at distance = (at + 4 + 4 * sign_extended distance) % 2 ^ 32
-
--- where a jump at this address goes: the word of this number within the 256 MB of its delay slot
-unfoldable pub jump_target : ℕ → ℕ → ℕ
-jump_target at number = (at + 4) % 2 ^ 32 / 2 ^ 28 * 2 ^ 28 + 4 * number
 
 -- `off(base)`
 unfoldable pub based_text : ℕ → ℕ → List ℕ
@@ -45,6 +38,22 @@ operand_text inst at Signed = signed_text inst.imm
 operand_text inst at Based = based_text inst.imm inst.rs
 operand_text inst at BranchTarget = hex_text (branch_target at inst.imm)
 operand_text inst at JumpTarget = hex_text (jump_target at inst.imm)
+
+-- the fields that an operand says are in range, so that its text says them
+abbrev pub OperandFits : Inst → Operand → Type 0
+OperandFits inst (Register field) = field_of field inst < 32
+OperandFits inst Cp0Register = inst.rd < 32
+OperandFits inst (Decimal field width) = (field_of field inst < 2 ^ width) × (2 ^ width ≤ 2 ^ 32)
+OperandFits inst (Hexadecimal field width) = (field_of field inst < 2 ^ width) × (2 ^ width ≤ 2 ^ 32)
+OperandFits inst Signed = inst.imm < 2 ^ 16
+OperandFits inst Based = (inst.imm < 2 ^ 16) × (inst.rs < 32)
+OperandFits inst BranchTarget = inst.imm < 2 ^ 16
+OperandFits inst JumpTarget = inst.imm < 2 ^ 26
+
+-- the same of each operand
+abbrev pub AllFit : Inst → List Operand → Type 0
+AllFit inst [] = Unit {0}
+AllFit inst (one ∷ more) = OperandFits inst one × AllFit inst more
 
 -- the texts of the operands of a form
 abbrev pub operand_texts : Form → Inst → ℕ → List (List ℕ)

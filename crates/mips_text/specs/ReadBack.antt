@@ -4,7 +4,8 @@ use Rattle.std.specs.Prelude.{◌≡◌, ℕ, List, Option, Some, None}
 use Rattle.flat_ram.specs.Bytes.{bytes_of}
 use Rattle.mips3_table.specs.declared.instruction.Inst.{Inst}
 use Rattle.mips3_code.specs.Coding.{encoded}
-use Rattle.mips_text.specs.Line.{Item, Read, read_line}
+use Rattle.mips_text.specs.declared.item.Item.{Item}
+use Rattle.mips_text.specs.Line.{Read, read_line}
 use Rattle.mips_text.specs.Coded.{Given, coded_at}
 
 -- A text, as one line of a source, is a statement without a label, and at this address it puts this word, whatever labels

@@ -3,6 +3,7 @@
 -- assembler (MIPS Assembly Language Programmer's Guide, chapters "Lexical Conventions" and "Instruction Set").
 use Rattle.std.specs.Prelude.{◌≡◌, ◌<◌, ◌≤◌, ℕ, zero, suc, ◌+◌, ◌-◌, ◌==◌, nat_lt, nat_le, Bool, true, false, ◌&&◌, ◌||◌, if◌then◌else◌, List, [], ◌∷◌, length, take, drop, slice_index, Option, Some, None}
 use Rattle.std.specs.List.{prefix_len}
+use Rattle.r4_words.specs.Texts.{is_digit}
 use Rattle.mips_text.specs.declared.reason.AsmWhy.{AsmWhy}
 use Rattle.mips_text.specs.declared.reason.AsmWhy.TheVariants.{Unknown, Operand}
 use Rattle.mips_text.specs.declared.token.Token.{Token}
@@ -18,10 +19,6 @@ is_blank code = (code == 32) || (code == 9)
 -- `,` `:` `(` `)`
 abbrev pub is_mark : ℕ → Bool
 is_mark code = (code == 44) || (code == 58) || (code == 40) || (code == 41)
-
--- 0-9
-abbrev pub is_digit : ℕ → Bool
-is_digit code = nat_le 48 code && nat_le code 57
 
 -- 0-9, A-F or a-f
 abbrev pub is_hex_digit : ℕ → Bool

@@ -2,17 +2,8 @@
 -- Source: the assembler language of this project; the printed formats are those that Rust's std writes for {} and {:#x}.
 use Rattle.std.specs.Prelude.{◌≡◌, ◌<◌, ◌≤◌, ℕ, ℤ, pos, neg_ℤ, nat_abs, zero, suc, ◌+◌, ◌-◌, ◌*◌, ◌^◌, ◌==◌, nat_lt, nat_le, Bool, true, false, if◌then◌else◌, List, [], ◌∷◌, ◌++◌, map, length, take, drop, slice_index, Option, Some, None, codes}
 use Rattle.std.specs.Int.Digits.{digits_of}
-use Rattle.r4_words.specs.Texts.{dec_of, digit_of}
+use Rattle.r4_words.specs.Texts.{dec_of, digit_of, number_after}
 use Rattle.mips_text.specs.Tokens.{is_hexadecimal}
-
--- what a digit stands for: 0-9, A-F or a-f
-abbrev pub value_of_digit : ℕ → ℕ
-value_of_digit code = if nat_le code 57 then code - 48 else if nat_le code 70 then code - 55 else code - 87
-
--- the number in a base that begins with the digits of `number` and goes on with those of a text
-abbrev pub number_after : ℕ → ℕ → List ℕ → ℕ
-number_after base number [] = number
-number_after base number (code ∷ text) = number_after base (number * base + value_of_digit code) text
 
 -- the number of digits without a sign: hexadecimal after `0x`, else decimal
 abbrev pub magnitude_of : List ℕ → ℕ

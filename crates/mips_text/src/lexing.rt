@@ -2,6 +2,7 @@
 
 ghost use Rattle.std.specs.Prelude.{◌≡◌, ◌<◌, ◌≤◌, ◌+◌, ◌-◌, ◌∷◌, [], ◌++◌, length, drop, slice_index, true, false, IfSome, All};
 ghost use Rattle.std.specs.List.{prefix_len};
+ghost use Rattle.r4_words.specs.Texts.{is_digit};
 ghost use Rattle.mips_text.specs.Tokens as spec;
 
 use crate::reason::AsmWhy;
@@ -32,7 +33,7 @@ fn is_name_byte(code: u8) -> bool
 /// How many decimal digits a text begins with.
 #[tactic(auto, using(crate::proofs::Cutting::run_within))]
 fn digits(text: &[u8]) -> usize
-    ensures value { result ≡ prefix_len spec.is_digit text.now }
+    ensures value { result ≡ prefix_len is_digit text.now }
     ensures within { result ≤ length text.now }
 {
     text.iter()

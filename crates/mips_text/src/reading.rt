@@ -1,14 +1,14 @@
 //! What a name or a number of a source stands for.
 
 ghost use Rattle.std.specs.Prelude.{◌≡◌, ◌<◌, ◌≤◌, ◌+◌, ◌*◌, ◌^◌, length, bytes_eq, position};
+ghost use Rattle.r4_words.specs.Texts.{number_after};
 ghost use Rattle.mips_text.specs.Forms as forms;
 ghost use Rattle.mips_text.specs.Names as names;
 ghost use Rattle.mips_text.specs.Values as values;
 
 use crate::lexing::{byte_at, is_hexadecimal, rest_from};
 use crate::names::{cp0_name, register_name};
-use mips3_table::name_of;
-use r4_words::read_dec;
+use r4_words::{read_dec, value_of_digit};
 
 /// Whether a text is this name.
 fn reads(text: &[u8], name: &str) -> bool
@@ -82,35 +82,9 @@ pub fn cp0_register_of(text: &[u8]) -> Option<u8>
     }
 }
 
-/// The row of the instruction table that has this name.
-#[tactic(auto, unfolding(crate::specs::Forms::row_named))]
-pub fn row_named(name: &[u8]) -> Option<u8>
-    ensures { result ≡ forms.row_named name.now }
-{
-    for row in 0..129 {
-        let of_row = name_of(row);
-        let is_it = reads(name, of_row);
-        if is_it {
-            return Some(row);
-        }
-    }
-    None
-}
-
-/// What a digit stands for: 0-9, A-F or a-f.
-fn value_of_digit(code: u8) -> u8
-    ensures { result ≡ values.value_of_digit code }
-{
-    match code {
-        0..=57 => code.saturating_sub(48),
-        58..=70 => code - 55,
-        _ => code.saturating_sub(87),
-    }
-}
-
 /// The number of decimal digits, None from 2 ^ 32 on.
 fn decimal(digits: &[u8]) -> Option<u32>
-    ensures { result ≡ values.small (values.number_after 10 0 digits.now) }
+    ensures { result ≡ values.small (number_after 10 0 digits.now) }
 {
     let mut number: u64 = 0;
     for code in digits {
@@ -124,7 +98,7 @@ fn decimal(digits: &[u8]) -> Option<u32>
 
 /// The number of hexadecimal digits, None from 2 ^ 32 on.
 fn hexadecimal(digits: &[u8]) -> Option<u32>
-    ensures { result ≡ values.small (values.number_after 16 0 digits.now) }
+    ensures { result ≡ values.small (number_after 16 0 digits.now) }
 {
     let mut number: u64 = 0;
     for code in digits {

@@ -1,6 +1,6 @@
 //! The bytes that a text in quotes stands for.
 
-ghost use Rattle.std.specs.Prelude.{◌≡◌, ◌<◌, ◌≤◌, ◌-◌, ◌++◌, ◌↔◌, length, drop, take, false, Some, None, IfSome, IfNone, IsSome, OnOk, option_map};
+ghost use Rattle.std.specs.Prelude.{◌≡◌, ◌<◌, ◌≤◌, ◌-◌, ◌++◌, ◌↔◌, length, drop, take, false, Some, None, IfSome, IfNone, IsSome, OnErr, OnOk, option_map, vec_len};
 ghost use Rattle.mips_text.specs.Values as values;
 
 use crate::lexing::{byte_at, rest_from};
@@ -79,18 +79,29 @@ fn size_of(inside: &[u8]) -> Option<usize>
     Some(size)
 }
 
-/// Appends the bytes that a Text token's text stands for, where `text_size` has an answer.
+/// Appends the bytes that a Text token's text stands for, where `text_size` has an answer. Where memory is wanting, the
+/// bytes stay as they were.
 #[tactic(auto, unfolding(crate::specs::Values::bytes_of_text))]
 pub fn push_text(text: &[u8], out: &mut Vec<u8>) -> Result<(), Memory>
     requires { IsSome (values.bytes_of_text text.now) }
-    ensures { OnOk result (IfSome (values.bytes_of_text text.now) (λ bytes. out.new.items ≡ out.old.items ++ bytes)) }
+    ensures ok { OnOk result (IfSome (values.bytes_of_text text.now) (λ bytes. out.new.items ≡ out.old.items ++ bytes)) }
+    ensures err { OnErr result (out.new.items ≡ out.old.items) }
 {
-    push_inside(inside(text), out)
+    let before = out.len();
+    match push_inside(inside(text), out) {
+        Ok(()) => Ok(()),
+        Err(error) => {
+            out.truncate(before);
+            Err(error)
+        }
+    }
 }
 
+/// Appends the bytes that the inside of a text stands for, or where memory is wanting some of them.
 fn push_inside(inside: &[u8], out: &mut Vec<u8>) -> Result<(), Memory>
     requires { IsSome (values.unescaped false inside.now) }
-    ensures { OnOk result (IfSome (values.unescaped false inside.now) (λ bytes. out.new.items ≡ out.old.items ++ bytes)) }
+    ensures ok { OnOk result (IfSome (values.unescaped false inside.now) (λ bytes. out.new.items ≡ out.old.items ++ bytes)) }
+    ensures front { take (vec_len out.old) out.new.items ≡ out.old.items }
 {
     let mut at = 0;
     while at < inside.len() {

@@ -1,10 +1,10 @@
-//! The text of each kind of operand, appended to a line, and where branches and jumps go.
+//! The text of each kind of operand, appended to a line.
 
 ghost use Rattle.std.specs.Prelude.{◌≡◌, ◌<◌, ◌≤◌, ◌+◌, ◌^◌, ◌++◌, length};
 ghost use Rattle.arrayvec.specs.ArrayVec.{array_vec_len};
 ghost use Rattle.mips_text.specs.Names as names;
 ghost use Rattle.mips_text.specs.Values.{hex_digits_of, hex_text, signed_text};
-ghost use Rattle.mips_text.specs.Printed.{based_text, branch_target, jump_target};
+ghost use Rattle.mips_text.specs.Printed.{based_text};
 
 use crate::names::{cp0_name, register_name};
 use r4_words::{Line, put_dec, put_hex, put_text};
@@ -74,7 +74,7 @@ pub fn put_signed(half: u32, line: &mut Line)
 pub fn put_based(offset: u32, base: u8, line: &mut Line)
     requires offset { offset < 2 ^ 16 }
     requires base { base < 32 }
-    requires room { array_vec_len line.old ≤ 60 }
+    requires room { array_vec_len line.old ≤ 72 }
     ensures items { line.new.items ≡ line.old.items ++ based_text offset base }
     ensures len { array_vec_len line.new ≤ array_vec_len line.old + 27 }
 {
@@ -82,27 +82,4 @@ pub fn put_based(offset: u32, base: u8, line: &mut Line)
     put_text(b"(", line);
     put_register(base, line);
     put_text(b")", line);
-}
-
-/// Where a branch at this address goes.
-#[tactic(auto, unfolding(crate::specs::Printed::branch_target))]
-pub fn branch_to(at: u32, distance: u32) -> u32
-    requires { distance < 2 ^ 16 }
-    ensures { result ≡ branch_target at distance }
-{
-    let words = if distance < 0x8000 {
-        distance
-    } else {
-        distance + 0xffff0000
-    };
-    at.wrapping_add(4).wrapping_add(words.wrapping_mul(4))
-}
-
-/// Where a jump at this address goes.
-#[tactic(auto, unfolding(crate::specs::Printed::jump_target))]
-pub fn jump_to(at: u32, number: u32) -> u32
-    requires { number < 2 ^ 26 }
-    ensures { result ≡ jump_target at number }
-{
-    at.wrapping_add(4) / 0x10000000 * 0x10000000 + 4 * number
 }

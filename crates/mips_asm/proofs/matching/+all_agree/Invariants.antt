@@ -2,4 +2,4 @@ use Rattle.std.proofs.Common.{length}
 use Rattle.mips_asm.proofs.matching.+all_agree.Given as goal
 
 abbrev pub decreases-all_agree : goal.decreases-all_agree
-decreases-all_agree l = length l.slots.now
+decreases-all_agree l = length l.expected.now

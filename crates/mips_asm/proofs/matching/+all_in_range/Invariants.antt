@@ -2,4 +2,4 @@ use Rattle.std.proofs.Common.{length}
 use Rattle.mips_asm.proofs.matching.+all_in_range.Given as goal
 
 abbrev pub decreases-all_in_range : goal.decreases-all_in_range
-decreases-all_in_range l = length l.slots.now
+decreases-all_in_range l = length l.expected.now

@@ -2,4 +2,4 @@ use Rattle.std.proofs.Common.{length}
 use Rattle.mips_asm.proofs.operands.+with_operands.Given as goal
 
 abbrev pub decreases-with_operands : goal.decreases-with_operands
-decreases-with_operands l = length l.slots.now
+decreases-with_operands l = length l.expected.now

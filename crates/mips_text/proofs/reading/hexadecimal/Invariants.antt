@@ -1,5 +1,5 @@
 use Rattle.std.proofs.Common.{◌≡◌, ◌<◌, ◌^◌, drop}
-use Rattle.mips_text.specs.Values.{number_after}
+use Rattle.r4_words.specs.Texts.{number_after}
 use Rattle.mips_text.proofs.reading.hexadecimal.Given as goal
 
 abbrev pub invariant-loop-code : goal.invariant-loop-code

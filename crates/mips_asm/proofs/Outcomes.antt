@@ -1,0 +1,58 @@
+-- What a source is assembled to, by its first fault.
+use Rattle.std.proofs.Common.{◌≡◌, ◌<◌, ℕ, List, Some, length, ap, sym, ◌∙◌, subst}
+use Rattle.mips_text.specs.declared.reason.AsmWhy.{AsmWhy}
+use Rattle.mips_asm.specs.Layout.{Placed, placed, readings_of, labels_of, layout_fault}
+use Rattle.mips_asm.specs.Assembly.{Image, Bad, HasNoFault, IsFirstFault, least, coding_fault, entry_of, bytes_of_lines, assembled_by_layout, assembled_by_coding, assembled_all, assembled, source_base, source_lines, source_labels, source_bytes, layout_faults, coding_faults}
+use Rattle.mips_asm.proofs.Faults.{found_within, least_first, least_none}
+
+layout_within : (base : ℕ) (lines : List Placed) (n : ℕ) (reason : AsmWhy) → layout_fault base lines n ≡ Some reason → n < length lines
+unfolding layout_fault
+layout_within base lines n reason is = found_within _ lines n reason is
+
+coding_within : (labels : List (List ℕ × ℕ)) (lines : List Placed) (n : ℕ) (reason : AsmWhy) → coding_fault labels lines n ≡ Some reason → n < length lines
+unfolding coding_fault
+coding_within labels lines n reason is = found_within _ lines n reason is
+
+-- a source whose first fault is of the first kind
+pub refused_by_layout : (source : List ℕ) (number : ℕ) (reason : AsmWhy) → IsFirstFault (layout_faults source) number reason → assembled source ≡ Bad number reason
+unfolding assembled
+refused_by_layout source number reason is =
+    ap (assembled_by_layout (source_base source) (source_lines source))
+    (least_first (layout_faults source) (length (source_lines source)) is.before reason (layout_within (source_base source) (source_lines source) is.before reason is.has) is.has is.none_before)
+    ∙ ap (λ n. Bad n reason) (sym is.counted)
+
+laid_out : (source : List ℕ) → HasNoFault (layout_faults source) →
+    assembled source ≡ assembled_by_coding (source_base source) (source_labels source) (source_lines source) (least (coding_faults source) (length (source_lines source)))
+unfolding assembled
+laid_out source none = ap (assembled_by_layout (source_base source) (source_lines source)) (least_none (layout_faults source) (length (source_lines source)) none)
+
+-- a source whose first fault is of the second kind
+pub refused_by_coding : (source : List ℕ) (number : ℕ) (reason : AsmWhy) → HasNoFault (layout_faults source) → IsFirstFault (coding_faults source) number reason → assembled source ≡ Bad number reason
+refused_by_coding source number reason none is =
+    laid_out source none
+    ∙ ap (assembled_by_coding (source_base source) (source_labels source) (source_lines source))
+    (least_first (coding_faults source) (length (source_lines source)) is.before reason (coding_within (source_labels source) (source_lines source) is.before reason is.has) is.has is.none_before)
+    ∙ ap (λ n. Bad n reason) (sym is.counted)
+
+-- lines without a fault
+pub image_of_lines : (base : ℕ) (lines : List Placed) → HasNoFault (layout_fault base lines) → HasNoFault (coding_fault (labels_of lines) lines) → assembled_all base lines ≡ Image base (entry_of base (labels_of lines)) (bytes_of_lines (labels_of lines) lines)
+image_of_lines base lines laid coded =
+    ap (assembled_by_layout base lines) (least_none (layout_fault base lines) (length lines) laid)
+    ∙ ap (assembled_by_coding base (labels_of lines) lines) (least_none (coding_fault (labels_of lines) lines) (length lines) coded)
+
+-- a source without a fault
+pub image_of : (source : List ℕ) → HasNoFault (layout_faults source) → HasNoFault (coding_faults source) → assembled source ≡ Image (source_base source) (entry_of (source_base source) (source_labels source)) (source_bytes source)
+unfolding assembled
+image_of source laid coded = image_of_lines (source_base source) (source_lines source) laid coded
+
+-- the same, where the calls of the passes came to these
+at_base : (source : List ℕ) (entry : ℕ) (labels : List (List ℕ × ℕ)) (bytes : List ℕ) → labels ≡ source_labels source → HasNoFault (layout_faults source) → bytes ≡ bytes_of_lines labels (source_lines source) → HasNoFault (coding_fault labels (source_lines source)) → entry ≡ entry_of (source_base source) labels → assembled source ≡ Image (source_base source) entry bytes
+at_base source entry labels bytes labelled laid filled coded entered =
+    image_of source laid (subst (λ known. HasNoFault (coding_fault known (source_lines source))) labelled coded)
+    ∙ ap (λ at. Image (source_base source) at (source_bytes source)) (sym (entered ∙ ap (entry_of (source_base source)) labelled))
+    ∙ ap (Image (source_base source) entry) (sym (filled ∙ ap (λ known. bytes_of_lines known (source_lines source)) labelled))
+
+pub image_by : (source : List ℕ) (base entry : ℕ) (labels : List (List ℕ × ℕ)) (bytes : List ℕ) → base ≡ source_base source → labels ≡ labels_of (placed base (readings_of source)) → HasNoFault (layout_fault base (placed base (readings_of source))) → bytes ≡ bytes_of_lines labels (placed base (readings_of source)) → HasNoFault (coding_fault labels (placed base (readings_of source))) → entry ≡ entry_of base labels → assembled source ≡ Image base entry bytes
+image_by source base entry labels bytes based =
+    let P : ℕ → Type 0 = λ at. labels ≡ labels_of (placed at (readings_of source)) → HasNoFault (layout_fault at (placed at (readings_of source))) → bytes ≡ bytes_of_lines labels (placed at (readings_of source)) → HasNoFault (coding_fault labels (placed at (readings_of source))) → entry ≡ entry_of at labels → assembled source ≡ Image at entry bytes in
+    subst P (sym based) (at_base source entry labels bytes)
