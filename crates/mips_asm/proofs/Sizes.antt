@@ -1,11 +1,8 @@
 -- A statement has as many bytes as its size says.
-use Rattle.std.proofs.Common.{◌≡◌, ◌-◌, ◌*◌, ◌%◌, ◌^◌, ℕ, Bool, true, false, List, [], ◌∷◌, Option, Some, None, length, cond, refl, sym, arith, subst}
+use Rattle.std.proofs.Common.{◌≡◌, ◌-◌, ◌*◌, ◌%◌, ◌^◌, ℕ, List, [], ◌∷◌, Option, Some, None, length, refl, sym, arith, subst}
 use Rattle.std.proofs.lemmas.List.{length-replicate}
-use Rattle.flat_ram.specs.Bytes.{bytes_of, zeros_of}
-use Rattle.mips3_code.specs.Coding.{encoded}
+use Rattle.flat_ram.specs.Bytes.{zeros_of}
 use Rattle.mips3_table.specs.declared.instruction.Inst.{Inst}
-use Rattle.mips_text.specs.declared.reason.AsmWhy.{AsmWhy}
-use Rattle.mips_text.specs.declared.reason.AsmWhy.TheVariants as why
 use Rattle.mips_text.specs.declared.item.Item.{Item}
 use Rattle.mips_text.specs.declared.item.Item.TheVariants.{Plain, BranchTo, JumpTo, LoadNumber, LoadLabel, Words, Bytes, Zeros, Origin, Aligned}
 use Rattle.mips_text.specs.Line.{Reading, Read, Refused}

@@ -1,5 +1,5 @@
 -- What holds of each statement that a name tells, and of each token that a statement expects.
-use Rattle.std.specs.Prelude.{ℕ, ◌<◌, ◌≤◌}
+use Rattle.std.specs.Prelude.{◌<◌, ◌≤◌}
 use Rattle.mips_text.specs.declared.operand.Range.{Range}
 use Rattle.mips_text.specs.declared.operand.Range.TheVariants.{Unsigned, WithSign, EitherSign, AnyNumber}
 use Rattle.mips_text.specs.declared.operand.Expected.{Expected}
