@@ -7,7 +7,6 @@ use Rattle.machine_core.specs.declared.processor.Cpu.{Cpu}
 use Rattle.machine_core.specs.declared.talk.Access.{Access}
 use Rattle.machine_core.specs.declared.talk.Part.TheVariants as part
 use Rattle.machine_core.specs.declared.talk.Reply.{Reply}
-use Rattle.machine_core.specs.declared.talk.Reply.TheVariants as reply
 use Rattle.machine_core.specs.declared.talk.Reply.TheVariants.{Value, Stored, Halt}
 use Rattle.machine_core.specs.declared.talk.Request.TheVariants.{Fetch, Load, Store}
 use Rattle.machine_core.specs.declared.instructions.Instruction.{Instruction}
