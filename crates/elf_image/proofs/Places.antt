@@ -2,9 +2,10 @@
 use Rattle.std.proofs.Common.{◌≡◌, ◌<◌, ◌≤◌, ◌+◌, ◌^◌, ℕ, true, false, nat_le, nat_lt, List, length, arith}
 use Rattle.std.proofs.lemmas.Bool.{leb-true, ltb-true, and_parts}
 use Rattle.flat_ram.specs.Map.{ram_size}
+use Rattle.flat_ram.specs.Unmapped.{is_unmapped, physical}
 use Rattle.elf_image.specs.declared.segments.Segment.{Segment}
 use Rattle.elf_image.specs.Header.{segment_at}
-use Rattle.elf_image.specs.Rules.{breaks_range, is_stored, is_in_range, is_unmapped, has_place, physical}
+use Rattle.elf_image.specs.Rules.{breaks_range, is_stored, is_in_range, has_place}
 use Rattle.elf_image.proofs.Stores.{in_range}
 
 -- a segment in range ends below the end of all addresses

@@ -1,11 +1,12 @@
 -- An image that was written is read, and gives the RAM its bytes.
-use Rattle.std.proofs.Common.{◌≡◌, ℕ, ◌+◌, ◌-◌, ◌*◌, ◌/◌, ◌%◌, ◌^◌, ◌<◌, ◌≤◌, Bool, true, false, ◌&&◌, not, List, [], ◌∷◌, ◌++◌, length, take, refl, ap, ◌∙◌, append-nil, length-append, arith, None}
-use Rattle.std.proofs.lemmas.List.{drop_at, take_all}
-use Rattle.std.proofs.lemmas.Bool.{le-leb}
+use Rattle.std.proofs.Common.{◌≡◌, ◌==◌, ℕ, drop, sym, add-zero, if◌then◌else◌, ◌+◌, ◌-◌, ◌*◌, ◌/◌, ◌%◌, ◌^◌, ◌<◌, ◌≤◌, Bool, true, false, ◌&&◌, not, List, [], ◌∷◌, ◌++◌, length, take, refl, ap, ◌∙◌, append-nil, length-append, arith, None}
+use Rattle.std.proofs.lemmas.List.{drop_at, take_all, take-append-drop}
+use Rattle.std.proofs.lemmas.Bool.{le-leb, eqb-true}
 use Rattle.flat_ram.specs.Bytes.{bytes_at, put_bytes, zeros_of}
+use Rattle.flat_ram.specs.Unmapped.{physical}
 use Rattle.elf_image.specs.declared.segments.Segment.{Segment}
 use Rattle.elf_image.specs.Header.{segment_at, headers_from, headers_of, entry_of, table_of, header_size_of, count_of}
-use Rattle.elf_image.specs.Rules.{image_fault, short_fault, magic_fault, class_fault, machine_fault, kind_fault, table_fault, range_fault, entry_fault, breaks_range, has_place, is_stored, is_in_range, can_enter, physical}
+use Rattle.elf_image.specs.Rules.{image_fault, short_fault, magic_fault, class_fault, machine_fault, kind_fault, table_fault, range_fault, entry_fault, breaks_range, has_place, is_stored, is_in_range, can_enter}
 use Rattle.elf_image.specs.Loading.{stored, stored_all, memory_of, loaded}
 use Rattle.elf_image.specs.Written.{elf_header, program_header, image_of}
 use Rattle.elf_image.proofs.Accepted.{none_broken}
@@ -72,9 +73,23 @@ unfolding segment_of
 memory_is base entry body =
     ap (λ z. bytes_at (image_of base entry body) 84 (length body) ++ z) (no_zeros (length body)) ∙ append-nil (bytes_at (image_of base entry body) 84 (length body)) ∙ body_is base entry body
 
-stored_segment : (bytes ram : List ℕ) (base count : ℕ) → stored bytes ram (segment_of base count) ≡ put_bytes ram (physical base) (memory_of bytes (segment_of base count))
+-- no bytes change nothing, wherever they are put
+put_nothing : (ram : List ℕ) (at : ℕ) (bytes : List ℕ) → length bytes ≡ 0 → ram ≡ put_bytes ram at bytes
+put_nothing ram at [] none = sym (ap (λ n. take at ram ++ drop n ram) (add-zero at) ∙ take-append-drop at ram)
+put_nothing ram at (b ∷ bytes) none = absurd (omega arith)
+
+-- so it does not matter that a segment without bytes is not stored
+stored_or_empty : (count : ℕ) (empty : Bool) (ram : List ℕ) (at : ℕ) (bytes : List ℕ) → (count == 0) ≡ empty → length bytes ≡ count →
+    (if not (empty && empty) then put_bytes ram at bytes else ram) ≡ put_bytes ram at bytes
+stored_or_empty count true ram at bytes is long = put_nothing ram at bytes (long ∙ eqb-true count 0 is)
+stored_or_empty count false ram at bytes is long = refl
+
+stored_segment : (bytes ram body : List ℕ) (base count : ℕ) → memory_of bytes (segment_of base count) ≡ body → length body ≡ count →
+    stored bytes ram (segment_of base count) ≡ put_bytes ram (physical base) body
 unfolding stored segment_of
-stored_segment bytes ram base count = refl
+stored_segment bytes ram body base count is long =
+    ap (λ memory. if not ((count == 0) && (count == 0)) then put_bytes ram (physical base) memory else ram) is
+    ∙ stored_or_empty count (count == 0) ram (physical base) body refl long
 
 loaded_by : (bytes ram : List ℕ) → headers_of bytes ≡ 52 ∷ [] → loaded bytes ram ≡ stored bytes ram (segment_at bytes 52)
 unfolding loaded
@@ -85,8 +100,7 @@ pub loaded_image_of : (base entry : ℕ) (body ram : List ℕ) → base < 2 ^ 32
 loaded_image_of base entry body ram address size =
     loaded_by (image_of base entry body) ram (written_headers base entry body)
     ∙ ap (stored (image_of base entry body) ram) (segment_is base entry body address size)
-    ∙ stored_segment (image_of base entry body) ram base (length body)
-    ∙ ap (put_bytes ram (physical base)) (memory_is base entry body)
+    ∙ stored_segment (image_of base entry body) ram body base (length body) (memory_is base entry body) refl
 
 -- the rules that a written image keeps whatever its base, its entry and its bytes are
 short_kept : (base entry : ℕ) (body : List ℕ) → short_fault (image_of base entry body) ≡ None

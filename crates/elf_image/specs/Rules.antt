@@ -7,6 +7,7 @@ use Rattle.std.specs.Prelude.{◌≡◌, ℕ, ◌==◌, ◌+◌, ◌*◌, ◌%�
 use Rattle.std.specs.Option.{option_map}
 use Rattle.std.specs.List.{starts_with, find}
 use Rattle.flat_ram.specs.Map.{ram_size}
+use Rattle.flat_ram.specs.Unmapped.{is_unmapped, physical}
 use Rattle.elf_image.specs.declared.rules.ImageFault.{ImageFault}
 use Rattle.elf_image.specs.declared.rules.ImageRule.{ImageRule}
 use Rattle.elf_image.specs.declared.rules.ImageRule.TheVariants.{Short, Magic, Class, Machine, Kind, Table, Range, Entry}
@@ -53,25 +54,13 @@ table_fault bytes =
     if not (count_of bytes == 0) && not (header_size_of bytes == 32) then Some (broken Table 42)
     else unless (nat_le (table_of bytes + 32 * count_of bytes) (length bytes)) (broken Table 28)
 
--- an address of kseg0 or kseg1, which the TLB does not map
-abbrev pub is_unmapped : ℕ → Bool
-is_unmapped va = nat_le 0x80000000 va && nat_lt va 0xc0000000
-
--- the physical address of an address in kseg0 or kseg1
-abbrev pub physical : ℕ → ℕ
-physical va = va % 2 ^ 29
-
--- p_type is PT_LOAD
-abbrev pub is_load : Segment → Bool
-is_load segment = segment.kind == 1
-
 -- neither the file nor the memory has a byte of the segment
 abbrev pub is_empty : Segment → Bool
 is_empty segment = (segment.file_size == 0) && (segment.memory_size == 0)
 
--- a segment whose bytes are stored
+-- a segment whose bytes are stored: p_type is PT_LOAD, and there are bytes
 abbrev pub is_stored : Segment → Bool
-is_stored segment = is_load segment && not (is_empty segment)
+is_stored segment = (segment.kind == 1) && not (is_empty segment)
 
 -- so many bytes from an address on lie in kseg0 or kseg1 and in RAM
 abbrev pub has_place : ℕ → ℕ → Bool

@@ -1,6 +1,6 @@
 //! Images: files of the ELF32 format, big-endian for MIPS, that the machine is started from.
 //!
-//! - `fields`: halves and words of a file, the high byte first.
+//! - `fields`: parts of a file.
 //! - `segments`: the program headers, which name the segments of an image.
 //! - `rules`: the rules that a file must meet, in the order in which they count.
 //! - `reading`: the image, from a file's bytes, or the first broken rule.

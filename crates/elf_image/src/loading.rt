@@ -2,6 +2,7 @@
 ghost use Rattle.std.specs.Prelude.{◌≡◌, ◌+◌, ◌*◌, ◌≤◌, length, true, false, None};
 ghost use Rattle.std.specs.List.{find};
 ghost use Rattle.flat_ram.specs.Bytes.{put_bytes};
+ghost use Rattle.flat_ram.specs.Unmapped as unmapped;
 ghost use Rattle.elf_image.specs.Header as header;
 ghost use Rattle.elf_image.specs.Rules as rules;
 ghost use Rattle.elf_image.specs.Loading as law;
@@ -10,15 +11,18 @@ use crate::fields::part;
 use crate::reading::Image;
 use crate::rules::is_stored;
 use crate::segments::{Segment, segment_at};
-use flat_ram::Ram;
+use flat_ram::{Ram, physical};
 
 fn store_in_range(bytes: &[u8], segment: &Segment, ram: &mut Ram)
     requires { rules.is_in_range (length bytes.now) segment.now ≡ true }
-    ensures { ram.new ≡ put_bytes ram.old (rules.physical segment.now.address) (law.memory_of bytes.now segment.now) }
+    ensures { ram.new ≡ put_bytes ram.old (unmapped.physical segment.now.address) (law.memory_of bytes.now segment.now) }
 {
     let file = part(bytes, segment.offset as usize, segment.file_size as usize);
-    let pa = u64::from(segment.address % 0x20000000);
-    ram.set_padded(pa, file, u64::from(segment.memory_size));
+    ram.set_padded(
+        physical(segment.address),
+        file,
+        u64::from(segment.memory_size),
+    );
 }
 
 fn store(bytes: &[u8], at: usize, ram: &mut Ram)

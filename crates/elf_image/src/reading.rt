@@ -4,10 +4,11 @@ ghost use Rattle.elf_image.specs.Header as header;
 ghost use Rattle.elf_image.specs.Rules as law;
 ghost use Rattle.elf_image.specs.Loading as loading;
 
-use crate::fields::{half_at, part, word_at};
+use crate::fields::part;
 use crate::rules;
 use crate::rules::{ImageFault, is_stored};
 use crate::segments::{Segment, segment_at};
+use flat_ram::{half_at, word_at};
 use std::marker::Model;
 
 /// An image that the machine can be started from: a file that meets all rules. Clauses see it as the file's bytes.

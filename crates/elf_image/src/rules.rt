@@ -4,9 +4,8 @@ ghost use Rattle.std.specs.List.{find};
 ghost use Rattle.elf_image.specs.Header as header;
 ghost use Rattle.elf_image.specs.Rules as law;
 
-use crate::fields::{half_at, word_at};
 use crate::segments::{Segment, segment_at};
-use flat_ram::RAM_SIZE;
+use flat_ram::{RAM_SIZE, half_at, is_unmapped, physical, word_at};
 
 /// A rule of images.
 #[derive(Clone, Copy, PartialEq, Eq, Debug)]
@@ -104,17 +103,11 @@ pub fn check_table(bytes: &[u8]) -> Result<(), ImageFault>
     require(end <= bytes.len() as u64, ImageRule::Table, 28)
 }
 
-fn is_unmapped(va: u32) -> bool
-    ensures { result ≡ law.is_unmapped va }
-{
-    va >= 0x80000000 && va < 0xc0000000
-}
-
 fn has_place(va: u32, count: u32) -> bool
     ensures { result ≡ law.has_place va count }
 {
     let unmapped = is_unmapped(va);
-    let end = u64::from(va % 0x20000000) + u64::from(count);
+    let end = physical(va) + u64::from(count);
     unmapped && end <= RAM_SIZE
 }
 

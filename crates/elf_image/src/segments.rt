@@ -2,7 +2,7 @@
 ghost use Rattle.std.specs.Prelude.{◌≡◌, ◌+◌, ◌≤◌, length};
 ghost use Rattle.elf_image.specs.Header as header;
 
-use crate::fields::word_at;
+use flat_ram::word_at;
 
 /// A segment, as its program header names it: `p_type`, `p_offset`, `p_vaddr`, `p_filesz` and `p_memsz`.
 #[derive(Clone, Copy, PartialEq, Eq, Debug)]

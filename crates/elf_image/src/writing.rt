@@ -2,7 +2,9 @@
 ghost use Rattle.std.specs.Prelude.{◌≡◌, ◌+◌, ◌≤◌, ◌++◌, length, List, ℕ, IfOk, true, None};
 ghost use Rattle.arrayvec.specs.ArrayVec.{array_vec_len};
 ghost use Rattle.flat_ram.specs.Bytes.{bytes_of, bytes_of_half, put_bytes};
-ghost use Rattle.elf_image.specs.Rules.{image_fault, has_place, can_enter, physical};
+ghost use Rattle.elf_image.specs.Rules.{image_fault, has_place, can_enter};
+ghost use Rattle.flat_ram.specs.Map.{ram_size};
+ghost use Rattle.flat_ram.specs.Unmapped.{physical};
 ghost use Rattle.elf_image.specs.Loading.{loaded};
 ghost use Rattle.elf_image.specs.Written as law;
 
@@ -81,7 +83,7 @@ fn put_program_header(base: u32, count: u32, headers: &mut Headers)
 
 #[tactic(auto, unfolding(crate::specs::Written::image_of))]
 fn image_bytes(alloc: Global, base: u32, entry: u32, body: &[u8]) -> Result<Vec<u8>, AllocError>
-    requires { length body.now ≤ 8388608 }
+    requires { length body.now ≤ ram_size }
     ensures { IfOk result (λ image. image.items ≡ law.image_of base entry body.now) }
 {
     let mut headers = Headers::new();
@@ -100,7 +102,7 @@ pub fn write_image(
     entry: u32,
     bytes: &[u8],
 ) -> Result<Vec<u8>, AllocError>
-    requires { length bytes.now ≤ 8388608 }
+    requires { length bytes.now ≤ ram_size }
     ensures image { IfOk result (λ image. image.items ≡ law.image_of built_base entry bytes.now) }
 
     // It is read where its bytes have a place in RAM and it can be entered, and it gives the RAM these bytes.

@@ -14,7 +14,7 @@ pub struct Prom {
     pub words: [u32; 1024],
 }
 
-/// The 8388608 bytes of RAM.
+/// The RAM: `RAM_SIZE` bytes.
 #[derive(Drop)]
 pub struct Ram {
     bytes: Vec<u8>,
@@ -123,14 +123,6 @@ impl Ram {
         put_bytes(&mut self.bytes, pa as usize, &word.to_be_bytes());
     }
 
-    /// Replaces the bytes from an address on.
-    pub fn set_bytes(&mut self, pa: u64, bytes: &[u8])
-        requires { pa + length bytes.now ≤ ram_size }
-        ensures { self.new ≡ law.put_bytes self.old pa bytes.now }
-    {
-        put_bytes(&mut self.bytes, pa as usize, bytes);
-    }
-
     /// Replaces so many bytes from an address on: by the bytes given, and then by zeros.
     pub fn set_padded(&mut self, pa: u64, bytes: &[u8], count: u64)
         requires room { pa + count ≤ ram_size }
@@ -138,14 +130,6 @@ impl Ram {
         ensures { self.new ≡ law.put_bytes self.old pa (bytes.now ++ law.zeros_of (count - length bytes.now)) }
     {
         put_padded(&mut self.bytes, pa as usize, bytes, count as usize);
-    }
-
-    /// Makes so many bytes zero from an address on.
-    pub fn clear(&mut self, pa: u64, count: u64)
-        requires { pa + count ≤ ram_size }
-        ensures { self.new ≡ law.put_bytes self.old pa (law.zeros_of count) }
-    {
-        put_zeros(&mut self.bytes, pa as usize, count as usize);
     }
 }
 
@@ -169,11 +153,11 @@ mod tests {
         ] {
             assert_eq!(rt; ram.get(pa), byte);
         }
-        ram.set_bytes(0x7ffff8, &[1, 2, 3, 4, 5]);
+        ram.set_padded(0x7ffff8, &[1, 2, 3, 4, 5], 5);
         assert_eq!(rt; ram.word(0x7ffffc), 0x05010000);
         ram.set(0x7fffff, 9);
         assert_eq!(rt; ram.word(0x7ffffc), 0x05010009);
-        ram.clear(0x7ffff9, 2);
+        ram.set_padded(0x7ffff9, &[], 2);
         ram.set_padded(0x7ffffb, &[], 2);
         let left: &[u8] = &[1, 0, 0, 0, 0, 1, 0, 9];
         assert_eq!(rt; ram.bytes(0x7ffff8, 8), left);

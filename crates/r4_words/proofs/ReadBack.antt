@@ -26,6 +26,12 @@ value_of_digit_lt code is = grind (arith, common_steps)
 pub decimal_lt : (code : ℕ) → is_digit code ≡ true → value_of_digit code < 10
 decimal_lt code is = grind (arith, common_steps)
 
+-- each byte of a hexadecimal text is a digit
+pub hex_digit_at : (text : List ℕ) (at : ℕ) → list_all is_hex_digit text ≡ true → at < length text → is_hex_digit (get_or text at 0) ≡ true
+hex_digit_at [] at all within = absurd (omega arith)
+hex_digit_at (code ∷ text) zero all within = (both (is_hex_digit code) (list_all is_hex_digit text) all).0
+hex_digit_at (code ∷ text) (suc at) all within = hex_digit_at text at (both (is_hex_digit code) (list_all is_hex_digit text) all).1 (omega arith)
+
 pub digit_is_hex : (code : ℕ) → is_digit code ≡ true → is_hex_digit code ≡ true
 digit_is_hex code is = grind (arith, common_steps)
 

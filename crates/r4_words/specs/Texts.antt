@@ -27,9 +27,10 @@ is_digit code = nat_le 48 code && nat_le code 57
 abbrev pub is_hex_digit : ℕ → Bool
 is_hex_digit code = is_digit code || (nat_le 97 code && nat_le code 102)
 
--- what the code of a digit stands for
+-- what the code of a digit stands for, 0-9, A-F or a-f; the code of no digit stands for nothing, and its value is read
+-- nowhere
 abbrev pub value_of_digit : ℕ → ℕ
-value_of_digit code = if nat_le code 57 then code - 48 else code - 87
+value_of_digit code = if nat_le code 57 then code - 48 else if nat_le code 70 then code - 55 else code - 87
 
 -- the number in a base that begins with the digits of `number` and goes on with those of a text
 abbrev pub number_after : ℕ → ℕ → List ℕ → ℕ

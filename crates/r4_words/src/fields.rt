@@ -2,6 +2,13 @@
 ghost use Rattle.std.specs.Prelude.{◌≡◌, ℕ, ◌<◌, ◌≤◌};
 ghost use Rattle.r4_words.specs.Words as words;
 
+/// The sign extension of a half to 32 bits.
+pub fn sext16(half: u16) -> u32
+    ensures { result ≡ words.sext16 half }
+{
+    i32::from(half.cast_signed()).cast_unsigned()
+}
+
 /// The sign extension of a word to 64 bits.
 pub fn sext32(word: u32) -> u64
     ensures { result ≡ words.sext32 word }

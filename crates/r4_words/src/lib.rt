@@ -1,7 +1,7 @@
 //! Words and texts: what every crate of the repository needs of machine words and of numbers as text.
 //!
-//! - `fields`: sign extension of a word, and the bit fields of a word.
-//! - `reading`: the number of a decimal text, and of a hexadecimal text of a fixed width.
+//! - `fields`: sign extension of a half and of a word, and the bit fields of a word.
+//! - `reading`: what a digit stands for, the number of a decimal text, and of a hexadecimal text of a fixed width.
 //! - `writing`: a line of bounded room, and numbers appended to it as text.
 //!
 //! Reading and writing are each other's inverse: the clauses of `read_dec` and `read_hex` say that a text is
@@ -13,8 +13,8 @@ mod fields;
 mod reading;
 mod writing;
 
-pub use fields::{field, sext32};
-pub use reading::{read_dec, read_hex};
+pub use fields::{field, sext16, sext32};
+pub use reading::{read_dec, read_hex, value_of_digit};
 use std::alloc::AllocError;
 pub use writing::{Line, put_dec, put_hex, put_text};
 

@@ -3,14 +3,17 @@ ghost use Rattle.std.specs.Prelude.{◌≡◌, ◌≢◌, ℕ, ◌<◌, ◌≤�
 ghost use Rattle.std.specs.List.{list_all};
 ghost use Rattle.r4_words.specs.Texts as texts;
 
-// The value of the code of a digit.
-fn value_of_digit(code: u8) -> u8
-    requires { texts.is_hex_digit code ≡ true }
+/// What the code of a digit stands for: 0-9, A-F or a-f.
+pub fn value_of_digit(code: u8) -> u8
     ensures value { result ≡ texts.value_of_digit code }
-    ensures small { result < 16 }
+    ensures small { texts.is_hex_digit code ≡ true → result < 16 }
     ensures decimal { texts.is_digit code ≡ true → result < 10 }
 {
-    if code <= b'9' { code - b'0' } else { code - 87 }
+    match code {
+        0..=b'9' => code.saturating_sub(b'0'),
+        58..=b'F' => code - 55,
+        _ => code.saturating_sub(87),
+    }
 }
 
 // Whether each byte is one of 0-9.
