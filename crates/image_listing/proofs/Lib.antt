@@ -1,3 +1,2 @@
 pub mod TextLength
 pub mod ListingLines
-pub mod Stopped

@@ -2,7 +2,7 @@
 
 ghost use Rattle.std.specs.Prelude.{◌<◌, ◌≤◌, ◌+◌, ◌*◌, ◌^◌, length, OnOk, OnErr};
 ghost use Rattle.r4_ports.specs.Told.{Appended, AppendedPrefix, HasCause};
-ghost use Rattle.r4_ports.specs.Writing.{Puts, stand};
+ghost use Rattle.r4_ports.specs.Writing.{Writes, stand};
 ghost use Rattle.elf_image.specs.Header.{count_of, segment_at, table_of};
 ghost use Rattle.image_listing.specs.Listing as law;
 ghost use Rattle.image_listing.specs.Listing.{listing_of};
@@ -10,41 +10,47 @@ ghost use Rattle.image_listing.specs.Listing.{listing_of};
 use crate::lines::word_line;
 use elf_image::Image;
 use flat_ram::word_at;
-use r4_ports::{Sink, SinkFault, finish, put_line};
+use r4_ports::{Pending, Sink, SinkFault, finish, write_line};
 
 // The lines of bytes that begin at an address.
-fn put_words<K: Sink>(address: u32, bytes: &[u8], out: &mut K, failed: &mut bool)
+fn write_words<K: Sink>(address: u32, bytes: &[u8], out: &mut K, pending: &mut Pending)
     requires { address + length bytes.now ≤ 2 ^ 32 }
-    ensures puts { Puts (stand K.written K.faults out.old failed.old) (stand K.written K.faults out.new failed.new) (law.word_lines address bytes.now) }
+    ensures writes { Writes (stand K.written K.faults out.old pending.old)
+        (stand K.written K.faults out.new pending.new)
+        (law.word_lines address bytes.now) }
 {
     for index in 0..bytes.len() / 4 {
         let line = word_line(address + 4 * index as u32, word_at(bytes, 4 * index));
-        put_line(&line, out, failed);
+        write_line(&line, out, pending);
     }
 }
 
 // The lines of the segment that a header names, unless a write failed before.
-#[tactic(auto, using(crate::proofs::Stopped::puts_stopped))]
-fn put_segment<K: Sink>(image: &Image<'_>, index: u32, out: &mut K, failed: &mut bool)
+#[tactic(auto, using(r4_ports::proofs::Writing::writes_stopped))]
+fn write_segment<K: Sink>(image: &Image<'_>, index: u32, out: &mut K, pending: &mut Pending)
     requires { index < count_of image.now }
-    ensures puts { Puts (stand K.written K.faults out.old failed.old) (stand K.written K.faults out.new failed.new) (law.segment_lines image.now (segment_at image.now (table_of image.now + 32 * index))) }
+    ensures writes { Writes (stand K.written K.faults out.old pending.old)
+        (stand K.written K.faults out.new pending.new)
+        (law.segment_lines image.now (segment_at image.now (table_of image.now + 32 * index))) }
 {
-    if !*failed {
-        put_words(
+    if !pending.failed {
+        write_words(
             image.segment(index).address,
             image.file_bytes(index),
             out,
-            failed,
+            pending,
         );
     }
 }
 
 // The lines of all segments.
-fn put_listing<K: Sink>(image: &Image<'_>, out: &mut K, failed: &mut bool)
-    ensures puts { Puts (stand K.written K.faults out.old failed.old) (stand K.written K.faults out.new failed.new) (listing_of image.now) }
+fn write_segments<K: Sink>(image: &Image<'_>, out: &mut K, pending: &mut Pending)
+    ensures writes { Writes (stand K.written K.faults out.old pending.old)
+        (stand K.written K.faults out.new pending.new)
+        (listing_of image.now) }
 {
     for index in 0..image.count() {
-        put_segment(image, index, out, failed);
+        write_segment(image, index, out, pending);
     }
 }
 
@@ -56,7 +62,7 @@ pub fn write_listing<K: Sink>(image: &Image<'_>, out: &mut K) -> Result<(), Sink
     ensures err { OnErr result (AppendedPrefix (K.written out.old) (K.written out.new) (listing_of image.now)) }
     ensures cause { HasCause (K.faults out.old) (K.faults out.new) result }
 {
-    let mut failed = false;
-    put_listing(image, out, &mut failed);
-    finish(failed)
+    let mut pending = Pending::new();
+    write_segments(image, out, &mut pending);
+    finish(out, &mut pending)
 }

@@ -1,7 +1,7 @@
 -- The memory system of this machine: the physical map with RAM, the PROM and three device registers, as uncached
 -- accesses to aligned words reach them. The map and the devices are this project's own. Every other access is a
 -- part that is not built yet.
-use Rattle.std.specs.Prelude.{ℕ, Bool, ◌==◌, ◌+◌, ◌-◌, ◌/◌, ◌%◌, ◌^◌, ◌&&◌, not, nat_le, slice_index, if◌then◌else◌}
+use Rattle.std.specs.Prelude.{ℕ, Bool, ◌==◌, ◌-◌, ◌/◌, ◌%◌, ◌^◌, ◌&&◌, not, slice_index, if◌then◌else◌}
 use Rattle.flat_ram.specs.Bytes.{word_at, bytes_of, put_bytes}
 use Rattle.flat_ram.specs.Map.{prom_base, device_base, spot_of}
 use Rattle.flat_ram.specs.declared.map.Spot.{Spot}

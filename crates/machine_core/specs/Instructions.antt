@@ -1,7 +1,7 @@
 -- The words of the seven instructions that are built: LUI, ORI, SLL, JR, LW, SW, and MTC0 to Status. After the MIPS
 -- R4000 Microprocessor User's Manual, appendix A: op stands in bits 31 to 26, rs in 25 to 21, rt in 20 to 16, rd in
 -- 15 to 11, the shift amount in 10 to 6, the function in 5 to 0, and an immediate or offset in 15 to 0.
-use Rattle.std.specs.Prelude.{ℕ, Bool, ◌==◌, ◌+◌, ◌^◌, ◌<◌, ◌&&◌, if◌then◌else◌, Option, Some, None}
+use Rattle.std.specs.Prelude.{ℕ, Bool, ◌==◌, ◌+◌, ◌<◌, ◌&&◌, if◌then◌else◌, Option, Some, None}
 use Rattle.r4_words.specs.Words.{field}
 use Rattle.machine_core.specs.declared.instructions.Instruction.{Instruction}
 use Rattle.machine_core.specs.declared.instructions.Instruction.TheVariants.{LoadUpperImmediate, OrImmediate, ShiftLeft, JumpRegister, LoadWord, StoreWord, MoveToStatus}

@@ -1,6 +1,6 @@
 -- The pairs of the TLB at reset, after the MIPS R4000 Microprocessor User's Manual, chapter 4 (48 entries, each
 -- for a pair of pages). That they are zero at reset is this project's own.
-use Rattle.std.specs.Prelude.{ℕ, replicate}
+use Rattle.std.specs.Prelude.{replicate}
 use Rattle.machine_core.specs.declared.lookaside.Pair.{Pair}
 use Rattle.machine_core.specs.declared.lookaside.Tlb.{Tlb}
 

@@ -1,7 +1,7 @@
 -- The architectural state of the processor, after the MIPS R4000 Microprocessor User's Manual: the CPU registers
 -- (chapter 1), CP0 (chapters 4 and 5), the TLB (chapter 4), the link bit (the instructions LL and SC), and the
 -- branch delay slot (chapter 3). The number of ticks and the halt code are this project's own.
-use Rattle.std.specs.Prelude.{ℕ, ◌+◌, ◌%◌, ◌^◌, true, false, Option, Some, None}
+use Rattle.std.specs.Prelude.{ℕ, ◌+◌, ◌%◌, ◌^◌, true, false, None}
 use Rattle.machine_core.specs.declared.processor.Cpu.{Cpu}
 use Rattle.machine_core.specs.Registers.{with_register, zero_registers}
 use Rattle.machine_core.specs.SystemControl.{reset_cp0}

@@ -1,6 +1,6 @@
 -- The report of a state, a text. Numbers are hexadecimal digits of fixed width in lower case; the tick count, the
 -- length of the console's output and the number of a TLB pair are decimal. The format is this project's own.
-use Rattle.std.specs.Prelude.{ℕ, zero, suc, Bool, ◌==◌, ◌+◌, ◌*◌, ◌/◌, ◌%◌, ◌&&◌, List, [], ◌∷◌, ◌++◌, length, take, drop, slice_index, codes, if◌then◌else◌, Option, Some, None}
+use Rattle.std.specs.Prelude.{ℕ, zero, suc, Bool, ◌==◌, ◌+◌, ◌*◌, ◌/◌, ◌%◌, ◌&&◌, List, [], ◌∷◌, ◌++◌, length, take, drop, codes, if◌then◌else◌, Option, Some, None}
 use Rattle.std.specs.List.{flat_map}
 use Rattle.r4_words.specs.Texts.{hex_of, dec_of}
 use Rattle.machine_core.specs.declared.registers.Regs.{Regs}

@@ -2,12 +2,11 @@
 -- Microprocessor User's Manual, appendix A. Memory is reached in kernel mode through kseg1, which is unmapped and
 -- uncached (chapter 4). Every other way is a part that is not built yet.
 use Rattle.std.specs.Prelude.{ℕ, Bool, ◌==◌, ◌+◌, ◌-◌, ◌*◌, ◌/◌, ◌%◌, ◌^◌, ◌&&◌, bit_or, false, nat_lt, if◌then◌else◌, Option, Some, None}
-use Rattle.r4_words.specs.Words.{sext32}
+use Rattle.r4_words.specs.Words.{sext16, sext32}
 use Rattle.machine_core.specs.declared.processor.Cpu.{Cpu}
 use Rattle.machine_core.specs.declared.talk.Access.{Access}
 use Rattle.machine_core.specs.declared.talk.Part.TheVariants as part
 use Rattle.machine_core.specs.declared.talk.Reply.{Reply}
-use Rattle.machine_core.specs.declared.talk.Reply.TheVariants as reply
 use Rattle.machine_core.specs.declared.talk.Reply.TheVariants.{Value, Stored, Halt}
 use Rattle.machine_core.specs.declared.talk.Request.TheVariants.{Fetch, Load, Store}
 use Rattle.machine_core.specs.declared.instructions.Instruction.{Instruction}
@@ -17,10 +16,6 @@ use Rattle.machine_core.specs.Registers.{register, low_word}
 use Rattle.machine_core.specs.SystemControl.{is_kernel, is_quiet, with_status}
 use Rattle.machine_core.specs.Processor.{advanced, jumped, with_result}
 use Rattle.machine_core.specs.Talk.{Talk, Done, Refuse, Ask}
-
--- the sign extension of 16 bits to 32
-abbrev pub sext16 : ℕ → ℕ
-sext16 half = if nat_lt half (2 ^ 15) then half else half + (2 ^ 32 - 2 ^ 16)
 
 -- the effective address: the base register and the offset, modulo 2 ^ 32
 abbrev pub effective_address : Cpu → ℕ → ℕ → ℕ

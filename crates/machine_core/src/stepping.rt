@@ -9,7 +9,7 @@ ghost use Rattle.machine_core.specs.Instructions.{HasFields};
 use crate::instructions::{Instruction, decode};
 use crate::processor::Cpu;
 use crate::talk::{Access, MemorySystem, Part, Reply, Request};
-use r4_words::sext32;
+use r4_words::{sext16, sext32};
 
 // The low 32 bits of a register.
 fn low_word(cpu: &Cpu, at: u8) -> u32
@@ -17,17 +17,6 @@ fn low_word(cpu: &Cpu, at: u8) -> u32
     ensures value { result ≡ low_word cpu.now.regs at }
 {
     (cpu.regs.read(at) % 4294967296) as u32
-}
-
-// The sign extension of 16 bits to 32.
-fn sext16(half: u16) -> u32
-    ensures value { result ≡ law.sext16 half }
-{
-    if half < 0x8000 {
-        u32::from(half)
-    } else {
-        u32::from(half) + 0xffff0000
-    }
 }
 
 // The effective address of a load or a store.

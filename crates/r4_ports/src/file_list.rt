@@ -1,5 +1,5 @@
 //! A list of named files, of which the first with a name counts.
-ghost use Rattle.std.specs.Prelude.{◌≡◌, ◌≤◌, take, IfOk};
+ghost use Rattle.std.specs.Prelude.{◌≡◌, ◌≤◌, length, take, IfOk};
 ghost use Rattle.std.specs.Option.{option_copied};
 ghost use Rattle.std.specs.FinMap.{get};
 ghost use Rattle.r4_ports.specs.Told.{file_of};
@@ -32,7 +32,8 @@ pub fn bytes_of<'a>(files: &'a [(String, Vec<u8>)], name: &str) -> &'a [u8]
 
 /// A copy of the first bytes, at most so many.
 pub fn first_bytes(alloc: Global, bytes: &[u8], cap: usize) -> Result<Vec<u8>, Memory>
-    ensures { IfOk result (λ v. v.items ≡ take cap bytes.now) }
+    ensures bytes { IfOk result (λ v. v.items ≡ take cap bytes.now) }
+    ensures at_most { IfOk result (λ v. length v.items ≤ cap) }
 {
     Ok(Vec::from_slice(alloc, &bytes[..bytes.len().min(cap)])?)
 }

@@ -26,7 +26,7 @@ pub mod sure_sink;
 
 pub use mem_shelf::MemShelf;
 pub use mem_sink::MemSink;
-pub use pieces::{finish, put_all, put_line, write_all};
+pub use pieces::{Pending, finish, write_all, write_line, write_text};
 use r4_words::Memory;
 use std::alloc::Global;
 pub use sure_shelf::SureShelf;
@@ -95,10 +95,12 @@ pub trait Shelf {
     /// How many puts have failed.
     ghost put_faults: { Self → ℕ };
 
-    /// The first `cap` bytes of the named file, or all where it has fewer. A name that a told shelf lacks has no
-    /// bytes. It fails only where `fetch_faults` rises; a call that finds no memory answers `Memory`.
+    /// The first `cap` bytes of the named file, or all where it has fewer, and never more than `cap`. A name that a
+    /// told shelf lacks has no bytes. It fails only where `fetch_faults` rises; a call that finds no memory answers
+    /// `Memory`.
     fn fetch(&mut self, alloc: Global, name: &str, cap: usize) -> Result<Vec<u8>, FetchFault>
         ensures bytes { IfOk result (λ v. Fetched (held self.old) name.now cap v.items) }
+        ensures at_most { IfOk result (λ v. length v.items ≤ cap) }
         ensures held { held self.new ≡ held self.old }
         ensures asked { Appended (asked self.old) (asked self.new) (fetch_of name.now ∷ []) }
         ensures never_falls { fetch_faults self.old ≤ fetch_faults self.new }

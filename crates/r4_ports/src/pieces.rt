@@ -1,69 +1,110 @@
-//! Writing a text to a sink: in pieces of at most 128 bytes, up to the first write that fails.
+//! Writing a text to a sink: in full pieces of 128 bytes, up to the first write that fails.
 //!
-//! A writer carries a flag `failed` beside its sink. Each of its parts writes nothing once the flag is set, so a
-//! writer is straight-line code, and each part promises `Puts` of its own text. The laws of
-//! `proofs/Writing.antt` join the parts' texts to the whole text, and `finish` makes the writer's answer.
-ghost use Rattle.std.specs.Prelude.{◌≡◌, ◌≤◌, length, OnOk, OnErr, true, false};
+//! A writer carries a `Pending` beside its sink: the bytes that do not fill a piece yet, and whether a write has failed.
+//! Each of its parts writes nothing once one has, so a writer is straight-line code, and each part promises `Writes` of
+//! its own text. The laws of `proofs/Writing.antt` join the parts' texts to the whole text, and `finish` hands over what
+//! is pending and makes the writer's answer.
+ghost use Rattle.std.specs.Prelude.{◌≡◌, ◌≤◌, length, OnOk, OnErr, [], true, false};
+ghost use Rattle.arrayvec.specs.ArrayVec.{array_vec_len};
 ghost use Rattle.r4_ports.specs.Told.{Appended, AppendedPrefix, HasCause};
-ghost use Rattle.r4_ports.specs.Writing.{Puts, stand};
+ghost use Rattle.r4_ports.specs.Writing.{IsFresh, Writes, stand};
 
 use crate::{Sink, SinkFault};
-use r4_words::Line;
+use r4_words::{Line, put_text};
 
 /// The most bytes that one write takes.
 pub const PIECE: usize = 128;
 
-/// Writes a line, unless a write failed before.
-pub fn put_line<K: Sink>(line: &Line, out: &mut K, failed: &mut bool)
-    ensures { Puts (stand K.written K.faults out.old failed.old)
-        (stand K.written K.faults out.new failed.new) line.now.items }
-{
-    put_piece(line.as_slice(), out, failed);
+/// The bytes that do not fill a piece yet, and whether a write has failed.
+#[derive(Drop)]
+pub struct Pending {
+    pub piece: Line,
+    pub failed: bool,
 }
 
-// Writes a piece, unless it is empty or a write failed before.
-fn put_piece<K: Sink>(piece: &[u8], out: &mut K, failed: &mut bool)
-    requires { length piece.now ≤ 128 }
-    ensures { Puts (stand K.written K.faults out.old failed.old)
-        (stand K.written K.faults out.new failed.new) piece.now }
-{
-    if !*failed && !piece.is_empty() {
-        match out.write(piece) {
-            Ok(()) => {}
-            Err(_) => *failed = true,
+impl Pending {
+    /// Nothing is pending, and no write has failed.
+    pub fn new() -> Pending
+        ensures piece { result.piece.items ≡ [] }
+        ensures failed { result.failed ≡ false }
+    {
+        Pending {
+            piece: Line::new(),
+            failed: false,
         }
     }
 }
 
-/// Writes a text of any length in pieces, unless a write failed before.
-pub fn put_all<K: Sink>(text: &[u8], out: &mut K, failed: &mut bool)
-    ensures { Puts (stand K.written K.faults out.old failed.old)
-        (stand K.written K.faults out.new failed.new) text.now }
+// Hands what is pending to the sink, unless it is nothing or a write failed before.
+fn hand_over<K: Sink>(out: &mut K, pending: &mut Pending)
+    ensures writes { Writes (stand K.written K.faults out.old pending.old)
+        (stand K.written K.faults out.new pending.new) [] }
+    ensures empty { pending.new.piece.items ≡ [] }
+{
+    if !pending.failed && !pending.piece.is_empty() {
+        pending.failed = out.write(&pending.piece).is_err();
+    }
+    pending.piece.clear();
+}
+
+// Writes a piece, unless a write failed before.
+fn write_piece<K: Sink>(piece: &[u8], out: &mut K, pending: &mut Pending)
+    requires { length piece.now ≤ 128 }
+    ensures { Writes (stand K.written K.faults out.old pending.old)
+        (stand K.written K.faults out.new pending.new) piece.now }
+{
+    let room = PIECE - pending.piece.len();
+    if piece.len() <= room {
+        put_text(piece, &mut pending.piece);
+        return;
+    }
+    let (front, rest) = piece.split_at(room);
+    put_text(front, &mut pending.piece);
+    hand_over(out, pending);
+    put_text(rest, &mut pending.piece);
+}
+
+/// Writes a line, unless a write failed before.
+pub fn write_line<K: Sink>(line: &Line, out: &mut K, pending: &mut Pending)
+    ensures { Writes (stand K.written K.faults out.old pending.old)
+        (stand K.written K.faults out.new pending.new) line.now.items }
+{
+    write_piece(line.as_slice(), out, pending);
+}
+
+/// Writes a text of any length, unless a write failed before.
+pub fn write_text<K: Sink>(text: &[u8], out: &mut K, pending: &mut Pending)
+    ensures { Writes (stand K.written K.faults out.old pending.old)
+        (stand K.written K.faults out.new pending.new) text.now }
 {
     for piece in text.chunks(PIECE) {
-        put_piece(piece, out, failed);
+        write_piece(piece, out, pending);
     }
 }
 
-/// A writer's answer by its flag.
-pub fn finish(failed: bool) -> Result<(), SinkFault>
-    ensures ok { OnOk result (failed ≡ false) }
-    ensures err { OnErr result (failed ≡ true) }
+/// Hands over what is pending, and gives a writer's answer.
+pub fn finish<K: Sink>(out: &mut K, pending: &mut Pending) -> Result<(), SinkFault>
+    ensures writes { Writes (stand K.written K.faults out.old pending.old)
+        (stand K.written K.faults out.new pending.new) [] }
+    ensures empty { pending.new.piece.items ≡ [] }
+    ensures ok { OnOk result (pending.new.failed ≡ false) }
+    ensures err { OnErr result (pending.new.failed ≡ true) }
 {
-    if failed {
+    hand_over(out, pending);
+    if pending.failed {
         Err(SinkFault::Failed)
     } else {
         Ok(())
     }
 }
 
-/// Writes a text of any length.
+/// Writes a text of any length, and hands it over whole.
 pub fn write_all<K: Sink>(text: &[u8], out: &mut K) -> Result<(), SinkFault>
     ensures ok { OnOk result (Appended (K.written out.old) (K.written out.new) text.now) }
     ensures err { OnErr result (AppendedPrefix (K.written out.old) (K.written out.new) text.now) }
     ensures cause { HasCause (K.faults out.old) (K.faults out.new) result }
 {
-    let mut failed = false;
-    put_all(text, out, &mut failed);
-    finish(failed)
+    let mut pending = Pending::new();
+    write_text(text, out, &mut pending);
+    finish(out, &mut pending)
 }

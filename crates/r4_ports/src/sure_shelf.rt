@@ -1,5 +1,5 @@
 //! A shelf that never fails.
-ghost use Rattle.std.specs.Prelude.{◌≡◌, ◌∷◌, [], Some, None, IfOk, IsOk, IsErrOf};
+ghost use Rattle.std.specs.Prelude.{◌≡◌, ◌≤◌, length, ◌∷◌, [], Some, None, IfOk, IsOk, IsErrOf};
 ghost use Rattle.r4_ports.specs.Told.{Fetched};
 ghost use Rattle.r4_ports.specs.FileList.{files_of};
 ghost use Rattle.r4_ports.specs.declared.FetchFault.TheVariants.{Failed};
@@ -56,6 +56,7 @@ impl Shelf for SureShelf {
 
     fn fetch(&mut self, alloc: Global, name: &str, cap: usize) -> Result<Vec<u8>, FetchFault>
         ensures bytes { IfOk result (λ v. Fetched self.old name.now cap v.items) }
+        ensures at_most { IfOk result (λ v. length v.items ≤ cap) }
         ensures never_fails { ¬ IsErrOf result Failed }
         ensures state { self.new ≡ self.old }
     {

@@ -1,7 +1,7 @@
 // Each implementation through its trait: a generic function is proved from its bounds alone.
 use crate::{
-    CallKind, FetchFault, MemShelf, MemSink, PutFault, Shelf, Sink, SinkFault, SureShelf, SureSink,
-    put_all, write_all,
+    CallKind, FetchFault, MemShelf, MemSink, Pending, PutFault, Shelf, Sink, SinkFault, SureShelf,
+    SureSink, finish, write_all, write_text,
 };
 use std::alloc::{AllocError, Global};
 use std::test::Fail;
@@ -128,10 +128,10 @@ fn a_long_text_stops_at_its_first_failure(rt: HostRuntime) -> Result<(), Fail> {
     assert_eq!(rt; whole.bytes(), text.as_slice());
     let failing = Vec::from_slice(alloc, &[1])?;
     let mut cut = MemSink::new(alloc, 1000, failing)?;
-    let mut failed = false;
-    put_all(&text, &mut cut, &mut failed);
-    put_all(b"more", &mut cut, &mut failed);
-    assert!(rt; failed);
+    let mut pending = Pending::new();
+    write_text(&text, &mut cut, &mut pending);
+    write_text(b"more", &mut cut, &mut pending);
+    assert!(rt; finish(&mut cut, &mut pending).is_err());
     assert_eq!(rt; cut.bytes().len(), 128 + 64);
     assert_eq!(rt; cut.fault_count(), 1);
     Ok(())

@@ -5,7 +5,9 @@
 #![tactic(auto)]
 
 mod file_shelf;
+mod placing;
 mod stream_sink;
+mod streams;
 
 use file_shelf::FileShelf;
 use r4k_top::{Status, status_number, workstation, write_status};
@@ -38,7 +40,7 @@ fn run(rt: &HostRuntime) -> Status {
     let Ok(words) = words_of(rt, alloc) else {
         return Status::Memory;
     };
-    let mut shelf = FileShelf::new(rt);
+    let mut shelf = FileShelf::new(rt, alloc);
     let mut out = StdSink::new(io::writer(rt));
     workstation(alloc, &words, &mut shelf, &mut out)
 }

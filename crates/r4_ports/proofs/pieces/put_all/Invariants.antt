@@ -1,9 +1,0 @@
-use Rattle.std.proofs.Common.{◌≡◌, ℕ, List, ◌++◌}
-use Rattle.r4_ports.specs.Writing.{Puts, stand}
-use Rattle.r4_ports.proofs.pieces.put_all.Given as goal
-
--- what was cut off the text so far was written
-abbrev pub invariant-loop-piece : goal.invariant-loop-piece
-invariant-loop-piece g l =
-    (l.piece-iterator.size ≡ 128)
-    × ((done : List ℕ) × (done ++ l.piece-iterator.rest.now ≡ l.text) × Puts (stand g.K.Sink.written g.K.Sink.faults l.initial.out l.initial.failed) (stand g.K.Sink.written g.K.Sink.faults l.out l.failed) done)

@@ -1,0 +1,11 @@
+use Rattle.std.proofs.Common.{◌≤◌, ◌-◌, length, take}
+use Rattle.std.specs.Io.KnownBytes.{Appends}
+use Rattle.r4k.proofs.streams.write_whole.Given as goal
+
+-- the bytes so far were appended
+abbrev pub invariant-loop-at : goal.invariant-loop-at
+invariant-loop-at g l = (l.at ≤ length l.bytes) × Appends (g.W.Write.contents l.initial.out) (g.W.Write.contents l.out) (take l.at l.bytes)
+
+-- the bytes that are left
+abbrev pub decreases-loop-at : goal.decreases-loop-at
+decreases-loop-at g l = length l.bytes - l.at
