@@ -98,6 +98,3 @@ pub fn workstation<F: Shelf, K: Sink>(
         },
     }
 }
-
-#[cfg(test)]
-mod tests;

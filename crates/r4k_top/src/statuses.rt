@@ -12,7 +12,7 @@ use r4_ports::{Sink, SinkFault, write_all};
 use r4_words::{Line, put_dec, put_text};
 
 /// How the program ended.
-#[derive(Clone, Copy, Debug, PartialEq, Eq)]
+#[derive(Clone, Copy, PartialEq, Eq)]
 pub enum Status {
     /// The job is complete.
     Done,
