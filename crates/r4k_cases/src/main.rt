@@ -6,7 +6,8 @@
 //! what is printed, is the text of `stdin` again, and a case is added by the same lines in both files.
 //!
 //! `fault` is why a line is refused; `text` reads numbers and bytes; `scene` is the outside of a case; `seen` carries out a
-//! command line; `shown` prints what it came to; `verbs` has a function a verb; `status_text` reads a status.
+//! command line; `shown` prints what it came to; `verbs` has a function a verb; `status_text` reads a status; `watched` is a shelf that
+//! keeps what it is asked for.
 #![tactic(auto)]
 
 mod fault;
@@ -16,6 +17,7 @@ mod shown;
 mod status_text;
 mod text;
 mod verbs;
+mod watched;
 
 use fault::Fault;
 use scene::Scene;

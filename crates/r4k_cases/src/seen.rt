@@ -1,6 +1,7 @@
 //! A command line, carried out over the outside of a scene.
 
 use crate::scene::Scene;
+use crate::watched::WatchedShelf;
 use r4_ports::{MemShelf, MemSink, SureSink};
 use r4k_top::{Status, workstation};
 use std::alloc::{AllocError, Global};
@@ -47,4 +48,20 @@ pub fn perform_sure(
     let words = words_of(alloc, line)?;
     let mut shelf = scene.sure_shelf(alloc)?;
     Ok(workstation(alloc, &words, &mut shelf, sink))
+}
+
+/// Carries out a command line over a shelf that keeps what it is asked for.
+pub fn perform_watched(
+    alloc: Global,
+    scene: &Scene,
+    line: &str,
+) -> Result<WatchedShelf, AllocError> {
+    let words = words_of(alloc, line)?;
+    let mut sink = scene.sink(alloc)?;
+    let mut shelf = WatchedShelf {
+        inside: scene.sure_shelf(alloc)?,
+        asked: String::new(alloc),
+    };
+    let _ = workstation(alloc, &words, &mut shelf, &mut sink);
+    Ok(shelf)
 }

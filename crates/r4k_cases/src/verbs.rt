@@ -12,16 +12,18 @@
 //! ports that never fail are given, and `lines BEGIN WORDS` the lines that begin so. `sure WORDS` is carried out over ports
 //! that never fail. The answer alone: `answer WORDS`; `steps NUMBER WORDS` of a run, for at most so many ticks, of the
 //! image of hexadecimal words at a0010000; `cut NAME FIRST LAST WORDS` and `spoil NAME FIRST LAST WORDS`, where the file is
-//! cut to each of these lengths in turn, or its byte at each of these places made greater by one. `status STATUS` shows
-//! the line and the number of a status.
+//! cut to each of these lengths in turn, or its byte at each of these places made greater by one. `asks WORDS` shows how
+//! much of each file the shelf is asked for. `status STATUS` shows the line and the number of a status, and `report STATUS`
+//! the number with which the program ends with it, and what it writes to the sink of the scene before that.
 
 use crate::fault::Fault;
 use crate::scene::Scene;
-use crate::seen::{perform, perform_sure};
+use crate::seen::{perform, perform_sure, perform_watched};
 use crate::shown::{put_outside, put_part, put_status, put_text};
 use crate::status_text::status_of;
 use crate::text::{image_of, number_of};
 use r4_ports::SureSink;
+use r4k_top::{Status, report_status};
 use std::alloc::{AllocError, Global};
 
 // Shows all that a command line came to, and of the text the lines that begin so.
@@ -88,6 +90,29 @@ fn show_steps(
     scene.set_file(alloc, "a", image)?;
     let line = format!(in alloc; "run|pc/16|a|-|-|{steps}")?;
     Ok(show_answer(alloc, scene, line.as_str(), out)?)
+}
+
+// Shows how much of each file the shelf is asked for.
+fn show_asked(
+    alloc: Global,
+    scene: &Scene,
+    line: &str,
+    out: &mut String,
+) -> Result<(), AllocError> {
+    let shelf = perform_watched(alloc, scene, line)?;
+    out.push_str(shelf.asked.as_str())
+}
+
+// Shows the number with which the program ends with a status, and what it writes before that.
+fn show_report(
+    alloc: Global,
+    scene: &Scene,
+    status: &Status,
+    out: &mut String,
+) -> Result<(), AllocError> {
+    let mut sink = scene.sink(alloc)?;
+    writeln!(out, "| ends with {}", report_status(status, &mut sink))?;
+    put_text(sink.bytes(), "", out)
 }
 
 // How a file is changed at a place.
@@ -213,7 +238,9 @@ pub fn carry_out(
         "part" => show_part(alloc, scene, rest, out)?,
         "sure" => show_sure(alloc, scene, rest, out)?,
         "answer" => show_answer(alloc, scene, rest, out)?,
+        "asks" => show_asked(alloc, scene, rest, out)?,
         "status" => put_status(alloc, &status_of(rest)?, out)?,
+        "report" => show_report(alloc, scene, &status_of(rest)?, out)?,
         _ => carry_out_with(alloc, scene, verb, rest, out)?,
     }
     Ok(())
