@@ -1,5 +1,5 @@
--- What a command puts: its own file, and no other.
-use Rattle.std.proofs.Common.{◌≡◌, ℕ, ◌⊎◌, Bool, true, false, List, Option, Some, None, IsNone, Result, Ok, Err, OnOk, OnErr, cond, refl, sym, ap, subst, ◌∙◌, inl, inr}
+-- The other files stay where one is put, and where the put fails.
+use Rattle.std.proofs.Common.{◌≡◌, ℕ, Bool, true, false, List, Option, Some, None, Result, Ok, Err, OnOk, OnErr, cond, refl, sym, ap, subst, ◌∙◌}
 use Rattle.std.specs.Str.{bytes_eq}
 use Rattle.std.specs.Cmp.Lexicographic.{nat_list_cmp_total}
 use Rattle.std.specs.FinMap.{get, get-insert}
@@ -7,10 +7,7 @@ use Rattle.std.proofs.lemmas.Map.Text.{is_eq-slice_cmp}
 use Rattle.std.proofs.lemmas.Slice.Eq.{bytes_eq-Decides}
 use Rattle.r4_ports.specs.declared.PutFault.{PutFault}
 use Rattle.r4_ports.specs.Told.{Files, PutInto}
-use Rattle.r4k_top.specs.declared.statuses.Status.{Status}
-use Rattle.r4k_top.specs.Outcome.{File, file_name}
-use Rattle.r4k_top.specs.Answers.{IsEarly, PutsNothing}
-use Rattle.r4k_top.specs.Clauses.{HasPut, OthersStay, PutRose}
+use Rattle.r4k_top.specs.Clauses.{OthersStay}
 
 is_false : {P : Type 0} (b : Bool) → (b ≡ true → P) → ¬ P → b ≡ false
 is_false true says not_so = absurd (not_so (says refl))
@@ -31,24 +28,3 @@ pub others_put : (result : Result (Unit {0}) PutFault) (before now : Option File
     OnOk result (PutInto before now name bytes) → OnErr result (now ≡ None) → OthersStay (Some name) before now
 others_put (Ok done) before now name bytes ok err = others_stay before now name bytes ok
 others_put (Err fault) before now name bytes ok err = subst (λ n. OthersStay (Some name) before n) (sym err) tt
-
--- THE CLAUSES ON WHAT IS PUT, for a name that the words give and the one of the file that was made
-
--- without a put there is no file
-pub no_file : (put : Option (List ℕ)) (file : Option File) (status : Status) → file_name file ≡ put → ¬ IsEarly status → PutsNothing put status → IsNone file
-no_file None None status named late nothing = refl
-no_file None (Some file) status named late nothing = cc
-no_file (Some name) file status named late nothing = absurd (late nothing)
-
-pub put_of : (before between now : Option Files) (file : Option File) → between ≡ before → HasPut between now file → HasPut before now file
-put_of before between now file same put = subst (λ b. HasPut b now file) same put
-
-pub rose_of : (put named : Option (List ℕ)) (before between now : ℕ) → named ≡ put → between ≡ before → PutRose named between now → PutRose put before now
-rose_of put named before between now is same rose = subst (λ n. PutRose n before now) is (subst (λ n. PutRose named n now) same rose)
-
-pub cause_of : {A : Type 0} (put named : Option (List ℕ)) (before between now : ℕ) → named ≡ put → between ≡ before → A ⊎ PutRose named between now → A ⊎ PutRose put before now
-cause_of put named before between now is same (inl a) = inl a
-cause_of put named before between now is same (inr rose) = inr (rose_of put named before between now is same rose)
-
-pub others_of : (put named : Option (List ℕ)) (before between now : Option Files) → named ≡ put → between ≡ before → OthersStay named between now → OthersStay put before now
-others_of put named before between now is same stay = subst (λ n. OthersStay n before now) is (subst (λ b. OthersStay named b now) same stay)

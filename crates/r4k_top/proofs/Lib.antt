@@ -1,4 +1,3 @@
-pub mod Cut
 pub mod Reading
 pub mod Delivery
 pub mod Headline

@@ -1,8 +1,8 @@
 -- What the words come to, file by file: each file that is accepted is one fetch more before what comes of the others, and
 -- a file that is refused ends it. The lemmas hold for any list of files and any job.
-use Rattle.std.proofs.Common.{◌≡◌, ℕ, List, [], ◌∷◌, Option, Some, None, refl, sym, ap, subst, ◌∙◌, Result, Ok, Err, IfOk, IfErr}
+use Rattle.std.proofs.Common.{◌≡◌, ℕ, List, [], ◌∷◌, Option, Some, None, refl, sym, ap, subst, ◌∙◌, Result, Ok, Err, IfOk, IfErr, ◌++◌, append_assoc}
 use Rattle.std.specs.Prelude.{map, IsErrAnd}
-use Rattle.std.proofs.lemmas.List.{append-nil}
+use Rattle.std.proofs.lemmas.List.{append-nil, map-append}
 use Rattle.machine_core.specs.declared.machine_state.Machine.{Machine}
 use Rattle.machine_core.specs.declared.ticking.Tick.{Tick}
 use Rattle.machine_core.specs.declared.ticking.Tick.TheVariants as tick
@@ -27,12 +27,28 @@ Over (Some held) files job P = P (outcome_over (file_of held) files (job (file_o
 abbrev pub fetched : Wanted → Outcome → Outcome
 fetched file rest = record { fetches = fetch_of file.name ∷ rest.fetches; end = rest.end }
 
+-- all of these fetches more
+abbrev pub fetched_all : List Wanted → Outcome → Outcome
+fetched_all files rest = record { fetches = map (λ f. fetch_of f.name) files ++ rest.fetches; end = rest.end }
+
 -- an accepted file
-pub accepted : (held : Option Files) (file : Wanted) (files : List Wanted) (job : (List ℕ → List ℕ) → End) (P : Outcome → Type 0) →
+accepted : (held : Option Files) (file : Wanted) (files : List Wanted) (job : (List ℕ → List ℕ) → End) (P : Outcome → Type 0) →
     Accepted held file → Over held files job (λ rest. P (fetched file rest)) → Over held (file ∷ files) job P
 accepted None file files job P is p = tt
 accepted (Some held) file files job P is p =
     subst (λ refusal. P (after_fetch (fetch_of file.name) refusal (outcome_over (file_of held) files (job (file_of held))))) (sym is) p
+
+-- every one of these files is accepted
+abbrev pub AllAccepted : Option Files → List Wanted → Type 0
+AllAccepted held [] = Unit {0}
+AllAccepted held (file ∷ files) = Accepted held file × AllAccepted held files
+
+-- accepted files before others
+accepted_all : (held : Option Files) (front files : List Wanted) (job : (List ℕ → List ℕ) → End) (P : Outcome → Type 0) →
+    AllAccepted held front → Over held files job (λ rest. P (fetched_all front rest)) → Over held (front ++ files) job P
+accepted_all held [] files job P are p = p
+accepted_all held (file ∷ front) files job P are p =
+    accepted held file (front ++ files) job P are.0 (accepted_all held front files job (λ rest. P (fetched file rest)) are.1 p)
 
 refused_end : (fetch : Call) (refusal : Option Refusal) (rest : Outcome) (answer : Status) → refused_status refusal ≡ Some answer →
     (answer ≡ status_of (after_fetch fetch refusal rest).end) × ((after_fetch fetch refusal rest).fetches ≡ fetch ∷ [])
@@ -89,45 +105,60 @@ refusal_has u P status.Memory m is = absurd is
 refusal_has u P status.TooLong m is = m
 refusal_has u P (status.Unbuilt tick part) m is = m
 
--- a reader's answer at the first file of a command
-refused_first : (command : Command) (file : Wanted) (files : List Wanted) (held : Option Files) (answer : Status) →
-    wanted_of command ≡ file ∷ files → RefusedAs held file answer →
-    ComesTo (Some command) held (λ o. (answer ≡ status_of o.end) × (o.fetches ≡ fetch_of file.name ∷ []))
-refused_first command file files held answer are is =
-    come_to command held (λ o. (answer ≡ status_of o.end) × (o.fetches ≡ fetch_of file.name ∷ []))
-    (subst (λ all. Over held all (job_of command) (λ o. (answer ≡ status_of o.end) × (o.fetches ≡ fetch_of file.name ∷ []))) (sym are)
-    (refused held file files (job_of command) answer is))
+-- the fetches of files
+abbrev pub fetches : List Wanted → List Call
+fetches files = map (λ f. fetch_of f.name) files
 
-pub stopped_reading : (command : Command) (file : Wanted) (files : List Wanted) (held : Option Files) (before now : Option (List Call)) (unread : Type 0) (answer : Status) →
-    wanted_of command ≡ file ∷ files → Appended before now (fetch_of file.name ∷ []) → MayStop unread (RefusedAs held file) answer →
-    StoppedWith (Some command) held before now unread answer
-stopped_reading command file files held before now unread answer are asked stop = record {
+-- a file of a command is refused, behind files that are accepted
+refused_behind : (command : Command) (front : List Wanted) (file : Wanted) (files : List Wanted) (held : Option Files) (answer : Status) →
+    wanted_of command ≡ front ++ file ∷ files → AllAccepted held front → RefusedAs held file answer →
+    ComesTo (Some command) held (λ o. (answer ≡ status_of o.end) × (o.fetches ≡ fetches front ++ fetch_of file.name ∷ []))
+refused_behind command front file files held answer are all is =
+    come_to command held (λ o. (answer ≡ status_of o.end) × (o.fetches ≡ fetches front ++ fetch_of file.name ∷ []))
+    (subst (λ wanted. Over held wanted (job_of command) (λ o. (answer ≡ status_of o.end) × (o.fetches ≡ fetches front ++ fetch_of file.name ∷ []))) (sym are)
+    (accepted_all held front (file ∷ files) (job_of command) (λ o. (answer ≡ status_of o.end) × (o.fetches ≡ fetches front ++ fetch_of file.name ∷ [])) all
+    (over_weaker held (file ∷ files) (job_of command) _ _ (λ o p. (p.0, ap (λ calls. fetches front ++ calls) p.1))
+    (refused held file files (job_of command) answer is))))
+
+fetches_cut : (command : Command) (front : List Wanted) (file : Wanted) (files : List Wanted) → wanted_of command ≡ front ++ file ∷ files →
+    (fetches front ++ fetch_of file.name ∷ []) ++ fetches files ≡ fetches_of (Some command)
+fetches_cut command front file files are =
+    append_assoc (fetches front) (fetch_of file.name ∷ []) (fetches files)
+    ∙ sym (map-append (λ (f : Wanted). fetch_of f.name) front (file ∷ files)) ∙ ap fetches (sym are)
+
+-- a reader's answer where it reads no file, behind files that were read
+pub stopped_reading : (command : Command) (front : List Wanted) (file : Wanted) (files : List Wanted) (held : Option Files) (before now : Option (List Call)) (unread : Type 0) (answer : Status) →
+    wanted_of command ≡ front ++ file ∷ files → AllAccepted held front → Appended before now (fetches front ++ fetch_of file.name ∷ []) →
+    MayStop unread (RefusedAs held file) answer → StoppedWith (Some command) held before now unread answer
+stopped_reading command front file files held before now unread answer are all asked stop = record {
   answer = may_stop unread unread (RefusedAs held file) (EndsWith (Some command) held) answer (λ rose. rose)
-      (λ s is. weaker (Some command) held _ (λ o. s ≡ status_of o.end) (λ o p. p.0) (refused_first command file files held s are is)) stop;
+      (λ s is. weaker (Some command) held _ (λ o. s ≡ status_of o.end) (λ o p. p.0) (refused_behind command front file files held s are all is)) stop;
   calls = record {
-    made = fetch_of file.name ∷ [];
-    rest = map (λ f. fetch_of f.name) files;
-    split = ap (map (λ (f : Wanted). fetch_of f.name)) (sym are);
+    made = fetches front ++ fetch_of file.name ∷ [];
+    rest = fetches files;
+    split = fetches_cut command front file files are;
     told = asked;
   };
   up_to = λ is. weaker (Some command) held _ (λ o. Appended before now o.fetches) (λ o p. subst (Appended before now) (sym p.1) asked)
-      (refused_first command file files held answer are (refusal_has unread (RefusedAs held file) answer stop is));
+      (refused_behind command front file files held answer are all (refusal_has unread (RefusedAs held file) answer stop is));
 }
 
-over_end : (held : Option Files) (job : (List ℕ → List ℕ) → End) (end : End) (file : Wanted) → ((files : Files) → held ≡ Some files → job (file_of files) ≡ end) →
-    Over held [] job (λ rest. ((fetched file rest).end ≡ end) × ((fetched file rest).fetches ≡ fetch_of file.name ∷ []))
-over_end None job end file ends = tt
-over_end (Some files) job end file ends = (ends files refl, refl)
+over_end : (held : Option Files) (files : List Wanted) (job : (List ℕ → List ℕ) → End) (end : End) →
+    AllAccepted held files → ((told : Files) → held ≡ Some told → job (file_of told) ≡ end) →
+    Over held files job (λ o. (o.end ≡ end) × (o.fetches ≡ fetches files))
+over_end None [] job end all ends = tt
+over_end (Some told) [] job end all ends = (ends told refl, refl)
+over_end held (file ∷ files) job end all ends =
+    accepted held file files job (λ o. (o.end ≡ end) × (o.fetches ≡ fetches (file ∷ files))) all.0
+    (over_weaker held files job _ _ (λ o p. (p.0, ap (λ calls. fetch_of file.name ∷ calls) p.1)) (over_end held files job end all.1 ends))
 
--- what a command comes to with its one file accepted
-pub one_accepted : (command : Command) (file : Wanted) (held : Option Files) (end : End) →
-    wanted_of command ≡ file ∷ [] → Accepted held file → ((files : Files) → held ≡ Some files → job_of command (file_of files) ≡ end) →
+-- what a command comes to with all its files accepted
+pub all_accepted : (command : Command) (held : Option Files) (end : End) →
+    AllAccepted held (wanted_of command) → ((told : Files) → held ≡ Some told → job_of command (file_of told) ≡ end) →
     ComesTo (Some command) held (λ o. (o.end ≡ end) × (o.fetches ≡ fetches_of (Some command)))
-one_accepted command file held end are is ends =
+all_accepted command held end all ends =
     come_to command held (λ o. (o.end ≡ end) × (o.fetches ≡ fetches_of (Some command)))
-    (subst (λ all. Over held all (job_of command) (λ o. (o.end ≡ end) × (o.fetches ≡ map (λ f. fetch_of f.name) all))) (sym are)
-    (accepted held file [] (job_of command) (λ o. (o.end ≡ end) × (o.fetches ≡ fetch_of file.name ∷ [])) is
-    (over_end held (job_of command) end file ends)))
+    (over_end held (wanted_of command) (job_of command) end all ends)
 
 -- what is made of it
 pub made_of : (said : Option Command) (held : Option Files) (before now : Option (List Call)) (made : Made) →

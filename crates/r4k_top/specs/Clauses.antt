@@ -74,10 +74,13 @@ pub record AskedPrefix (before now : Option (List Call)) (calls : List Call) : T
 abbrev pub AskedUpTo : Option Command → Option Files → Option (List Call) → Option (List Call) → Type 0
 AskedUpTo said held before now = ComesTo said held (λ outcome. Appended before now outcome.fetches)
 
--- no put was tried: the calls are the fetches, and the files are as they were
-pub record NoPut (said : Option Command) (asked_before asked : Option (List Call)) (held_before held : Option Files) : Type 0 where
+-- no put was tried: the calls are the fetches, and neither the files nor the count of failed puts changed
+pub record NoPut (said : Option Command) (asked_before asked : Option (List Call))
+    (held_before held : Option Files)
+    (before now : ℕ) : Type 0 where
   pub calls : Appended asked_before asked (fetches_of said)
   pub files : held ≡ held_before
+  pub faults : now ≡ before
 
 -- the put failed, the last of all calls, after the whole text had been written
 pub record PutFailed (said : Option Command) (held : Option Files) (text_before text_now : Option (List ℕ))
@@ -104,13 +107,15 @@ abbrev pub Accepted : Option Files → Wanted → Type 0
 Accepted held file = OfFile held file.name (λ bytes. refusal_of file bytes ≡ None)
 
 -- all files were fetched, and this is made of them
-pub record MadeOf (said : Option Command) (held : Option Files) (before now : Option (List Call)) (made : Made) : Type 0 where
+pub record MadeOf (said : Option Command) (held : Option Files) (before now : Option (List Call))
+    (made : Made) : Type 0 where
   pub came : ComesTo said held (λ outcome. outcome.end ≡ Makes made)
   pub named : file_name made.file ≡ out_name said
   pub calls : Appended before now (fetches_of said)
 
 -- nothing is made, and the answer says why; a refusal comes after the fetches up to the file that is refused
-pub record StoppedWith (said : Option Command) (held : Option Files) (before now : Option (List Call)) (unread : Type 0) (status : Status) : Type 0 where
+pub record StoppedWith (said : Option Command) (held : Option Files) (before now : Option (List Call))
+    (unread : Type 0) (status : Status) : Type 0 where
   pub answer : MayStop unread (EndsWith said held) status
   pub calls : AskedPrefix before now (fetches_of said)
   pub up_to : IsRefusal status → AskedUpTo said held before now

@@ -11,4 +11,5 @@ use Rattle.r4k_top.specs.Outcome.{Made}
 abbrev pub made_shown : Product → Made
 made_shown (product.Report machine) = record { text = report_of (shown_of machine); file = None }
 made_shown (product.Listing image) = record { text = listing_of image; file = None }
-made_shown (product.File name bytes) = record { text = []; file = Some (record { name = name.now; bytes = bytes.items }) }
+made_shown (product.File name bytes) =
+    record { text = []; file = Some (record { name = name.now; bytes = bytes.items }) }

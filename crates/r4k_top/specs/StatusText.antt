@@ -74,11 +74,4 @@ status_line (Unbuilt tick part) = unbuilt_line tick part
 -- what the program complains of with a status: nothing of Done, and the line of every other
 abbrev pub complaint_of : Status → List ℕ
 complaint_of Done = []
-complaint_of Usage = status_line Usage
-complaint_of ReadFault = status_line ReadFault
-complaint_of WriteFault = status_line WriteFault
-complaint_of (BadImage rule offset) = status_line (BadImage rule offset)
-complaint_of (BadSource line reason) = status_line (BadSource line reason)
-complaint_of Memory = status_line Memory
-complaint_of TooLong = status_line TooLong
-complaint_of (Unbuilt tick part) = status_line (Unbuilt tick part)
+complaint_of status = status_line status

@@ -59,6 +59,7 @@ pub fn workstation<F: Shelf, K: Sink>(
         ComesTo (command_of words.now) (F.held shelf.old) (WrittenPrefix (K.written out.old) (K.written out.new)) }
     ensures put_fault { result ≡ Status.WriteFault →
         NoPut (command_of words.now) (F.asked shelf.old) (F.asked shelf.new) (F.held shelf.old) (F.held shelf.new)
+        (F.put_faults shelf.old) (F.put_faults shelf.new)
         ⊎ PutFailed (command_of words.now) (F.held shelf.old) (K.written out.old) (K.written out.new)
         (F.asked shelf.old) (F.asked shelf.new) (F.put_faults shelf.old) (F.put_faults shelf.new) }
 
@@ -66,7 +67,8 @@ pub fn workstation<F: Shelf, K: Sink>(
     // name than the command's own.
     ensures sink_stays { IsEarly result → out.new ≡ out.old }
     ensures shelf_stays { result ≡ Status.Usage → shelf.new ≡ shelf.old }
-    ensures files_stay { PutsNothing (out_name (command_of words.now)) result → F.held shelf.new ≡ F.held shelf.old }
+    ensures files_stay { PutsNothing (out_name (command_of words.now)) result →
+        F.held shelf.new ≡ F.held shelf.old }
     ensures no_put { PutsNothing (out_name (command_of words.now)) result →
         F.put_faults shelf.new ≡ F.put_faults shelf.old }
     ensures others_stay { OthersStay (out_name (command_of words.now)) (F.held shelf.old) (F.held shelf.new) }

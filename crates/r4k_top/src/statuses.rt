@@ -181,12 +181,13 @@ pub fn write_status<K: Sink>(status: &Status, out: &mut K) -> Result<(), SinkFau
     write_all(line.as_slice(), out)
 }
 
-/// What the program does with its answer: nothing is written of Done, and of every other status its line, whatever comes of
-/// that write. The result is the number with which the program ends.
+/// What the program does with its answer: nothing is written of Done, and of every other status its line, whatever comes
+/// of that write. The result is the number with which the program ends.
 pub fn report_status<K: Sink>(status: &Status, complaints: &mut K) -> u8
     ensures number { result ≡ law.number_of status.now }
     ensures silent { status.now ≡ Status.Done → complaints.new ≡ complaints.old }
-    ensures prefix { AppendedPrefix (K.written complaints.old) (K.written complaints.new) (law.complaint_of status.now) }
+    ensures prefix { AppendedPrefix (K.written complaints.old) (K.written complaints.new)
+        (law.complaint_of status.now) }
     ensures whole { ¬ Rose (K.faults complaints.old) (K.faults complaints.new) →
         Appended (K.written complaints.old) (K.written complaints.new) (law.complaint_of status.now) }
 {
