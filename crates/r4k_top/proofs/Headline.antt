@@ -1,81 +1,92 @@
 -- The clauses of the top call, from what its calls ensure.
-use Rattle.std.proofs.Common.{◌≡◌, ℕ, ◌≤◌, ◌<◌, true, List, length, Option, Some, None, nat_lt, refl, sym, ap, subst, ◌∙◌, arith}
-use Rattle.std.proofs.lemmas.Bool.{lt-ltb}
-use Rattle.elf_image.specs.declared.rules.ImageRule.{ImageRule}
-use Rattle.machine_core.specs.declared.talk.Part.{Part}
-use Rattle.mips_text.specs.declared.reason.AsmWhy.{AsmWhy}
-use Rattle.r4_ports.specs.Told.{Files, file_of}
-use Rattle.r4k_top.specs.declared.statuses.Status.TheVariants.{Unbuilt, BadImage, BadSource}
-use Rattle.r4k_top.specs.Command.{Command, fetched_name}
-use Rattle.r4k_top.specs.Outcome.{Outcome, Stops, Broken, Refused, TooLong, outcome_of, outcome_within, file_limit}
-use Rattle.r4k_top.specs.Clauses.{OfFile, ComesTo, IsTooLong}
+use Rattle.std.proofs.Common.{◌≡◌, ℕ, ◌⊎◌, List, [], ◌++◌, append_assoc, Option, Some, None, IsNone, refl, sym, ap, subst, ◌∙◌, inl, inr}
+use Rattle.std.proofs.lemmas.List.{append-nil}
+use Rattle.r4_ports.specs.Told.{Files, Call, Appended}
+use Rattle.r4k_top.specs.declared.statuses.Status.{Status}
+use Rattle.r4k_top.specs.declared.statuses.Status.TheVariants.{Done, Usage, ReadFault, WriteFault, BadImage, BadSource, Memory, TooLong, Unbuilt}
+use Rattle.r4k_top.specs.Command.{Command, out_name}
+use Rattle.r4k_top.specs.Wanted.{fetches_of, puts_to, calls_of}
+use Rattle.r4k_top.specs.Outcome.{Made, file_name, outcome_of}
+use Rattle.r4k_top.specs.Answers.{IsLate}
+use Rattle.r4k_top.specs.Clauses.{EndsWith, AskedPrefix, AskedUpTo, PutAfter, MadeOf, StoppedWith}
 
--- a file beyond its limit
-long_outcome : (command : Command) (bytes : List ℕ) → file_limit < length bytes → outcome_of command bytes ≡ TooLong
+-- WORDS THAT ARE NO COMMAND
+
+pub usage_ends : (said : Option Command) (held : Option Files) → IsNone said → EndsWith said held Usage
 unfolding outcome_of
-long_outcome command bytes long = let is : nat_lt file_limit (length bytes) ≡ true = lt-ltb _ _ long in rw is refl
+usage_ends None None none = tt
+usage_ends None (Some files) none = refl
+usage_ends (Some command) held none = cc
 
--- a file within its limit
-short_outcome : (command : Command) (bytes : List ℕ) → length bytes ≤ file_limit → outcome_of command bytes ≡ outcome_within command bytes
+nothing_asked : (calls : Option (List Call)) → Appended calls calls []
+nothing_asked None = tt
+nothing_asked (Some calls) = sym (append-nil calls)
+
+pub usage_asked : (said : Option Command) (held : Option Files) (calls : Option (List Call)) → IsNone said → AskedUpTo said held calls calls
 unfolding outcome_of
-short_outcome command bytes short = grind arith
+usage_asked None None calls none = tt
+usage_asked None (Some files) calls none = nothing_asked calls
+usage_asked (Some command) held calls none = cc
 
--- what a command comes to with the file that was fetched
-pub record Job (said : Option Command) (held : Option Files) (name : List ℕ) (outcome : Outcome) : Type 0 where
-  pub command : Command
-  pub bytes : List ℕ
-  pub is_said : said ≡ Some command
-  pub is_named : name ≡ fetched_name command
-  pub is_whole : OfFile held name (λ whole. bytes ≡ whole)
-  pub is_short : length bytes ≤ file_limit
-  pub came : outcome_within command bytes ≡ outcome
+-- THE CALLS OF THE SHELF
 
--- a job that was done with these bytes
-pub job : (said : Option Command) (command : Command) (held : Option Files) (name bytes seen : List ℕ) (outcome : Outcome) →
-    said ≡ Some command → name ≡ fetched_name command → OfFile held name (λ whole. bytes ≡ whole) → length bytes ≤ file_limit →
-    seen ≡ bytes → outcome_within command seen ≡ outcome → Job said held name outcome
-job said command held name bytes seen outcome is named whole short same came = record {
-  command = command;
-  bytes = bytes;
-  is_said = is;
-  is_named = named;
-  is_whole = whole;
-  is_short = short;
-  came = ap (outcome_within command) (sym same) ∙ came;
+-- calls after calls
+pub calls_then : (a b c : Option (List Call)) (x y : List Call) → Appended a b x → Appended b c y → Appended a c (x ++ y)
+calls_then a b None x y p q = tt
+calls_then (Some a) (Some b) (Some c) x y p q = q ∙ ap (λ s. s ++ y) p ∙ append_assoc a x y
+calls_then None (Some b) (Some c) x y p q = p
+calls_then a None (Some c) x y p q = absurd q
+
+-- a prefix of some calls is one of them and more
+pub asked_fewer : (a b : Option (List Call)) (x y : List Call) → AskedPrefix a b x → AskedPrefix a b (x ++ y)
+asked_fewer a b x y p = record {
+  made = p.made;
+  rest = p.rest ++ y;
+  split = sym (append_assoc p.made p.rest y) ∙ ap (λ s. s ++ y) p.split;
+  told = p.told;
 }
 
--- what holds of the outcome with the bytes that were fetched holds of the outcome with the file
-of_fetched : (command : Command) (held : Option Files) (name bytes : List ℕ) (P : Outcome → Type 0) →
-    OfFile held name (λ whole. bytes ≡ whole) → P (outcome_of command bytes) → OfFile held name (λ whole. P (outcome_of command whole))
-of_fetched command None name bytes P got p = tt
-of_fetched command (Some files) name bytes P got p = subst (λ whole. P (outcome_of command whole)) got p
+-- the calls of a delivery, behind the fetches: all, or where a write failed the fetches alone
+all_calls : (a b c : Option (List Call)) (x y : List Call) → Appended a b x → Appended b c y → AskedPrefix a c (x ++ y)
+all_calls a b c x y p q = record { made = x ++ y; rest = []; split = append-nil (x ++ y); told = calls_then a b c x y p q }
 
--- what holds of the job's outcome is what the words come to
-pub comes_to : (said : Option Command) (held : Option Files) (name : List ℕ) (outcome : Outcome) (P : Outcome → Type 0) →
-    Job said held name outcome → P outcome → ComesTo said held P
-comes_to said held name outcome P done p =
-    subst (λ s. ComesTo s held P) (sym done.is_said)
-    (subst (λ n. OfFile held n (λ whole. P (outcome_of done.command whole))) done.is_named
-    (of_fetched done.command held name done.bytes P done.is_whole (subst P (sym (short_outcome done.command done.bytes done.is_short ∙ done.came)) p)))
+calls_of_failure : {S : Type 0} (asked : S → Option (List Call)) (a : Option (List Call)) (b c : S) (x : List Call) (made : Made) (u v : Option (List ℕ)) (m n : ℕ) →
+    Appended a (asked b) x → (c ≡ b) ⊎ PutAfter made u v (asked b) (asked c) m n → AskedPrefix a (asked c) (x ++ puts_to (file_name made.file))
+calls_of_failure asked a b c x made u v m n p (inl same) = record {
+  made = x;
+  rest = puts_to (file_name made.file);
+  split = refl;
+  told = subst (λ s. Appended a (asked s) x) (sym same) p;
+}
+calls_of_failure asked a b c x made u v m n p (inr put) = all_calls a (asked b) (asked c) x (puts_to (file_name made.file)) p put.calls
 
--- a file that was found beyond its limit
-too_long : (command : Command) (held : Option Files) (name : List ℕ) →
-    OfFile held name (λ whole. file_limit < length whole) → OfFile held name (λ whole. IsTooLong (outcome_of command whole))
-too_long command None name long = tt
-too_long command (Some files) name long = long_outcome command (file_of files name) long
+calls_of_delivery : {S : Type 0} (asked : S → Option (List Call)) (a : Option (List Call)) (b c : S) (x : List Call) (made : Made) (u v : Option (List ℕ)) (m n : ℕ) (answer : Status) →
+    IsLate answer → Appended a (asked b) x → (answer ≡ Done → Appended (asked b) (asked c) (puts_to (file_name made.file))) →
+    (answer ≡ WriteFault → (c ≡ b) ⊎ PutAfter made u v (asked b) (asked c) m n) → AskedPrefix a (asked c) (x ++ puts_to (file_name made.file))
+calls_of_delivery asked a b c x made u v m n Done late p done stop = all_calls a (asked b) (asked c) x (puts_to (file_name made.file)) p (done refl)
+calls_of_delivery asked a b c x made u v m n Usage late p done stop = absurd late
+calls_of_delivery asked a b c x made u v m n ReadFault late p done stop = absurd late
+calls_of_delivery asked a b c x made u v m n WriteFault late p done stop = calls_of_failure asked a b c x made u v m n p (stop refl)
+calls_of_delivery asked a b c x made u v m n (BadImage rule offset) late p done stop = absurd late
+calls_of_delivery asked a b c x made u v m n (BadSource line reason) late p done stop = absurd late
+calls_of_delivery asked a b c x made u v m n Memory late p done stop = absurd late
+calls_of_delivery asked a b c x made u v m n TooLong late p done stop = absurd late
+calls_of_delivery asked a b c x made u v m n (Unbuilt tick part) late p done stop = absurd late
 
-pub comes_too_long : (said : Option Command) (command : Command) (held : Option Files) (name : List ℕ) →
-    said ≡ Some command → name ≡ fetched_name command → OfFile held name (λ whole. file_limit < length whole) → ComesTo said held IsTooLong
-comes_too_long said command held name is named long =
-    subst (λ s. ComesTo s held IsTooLong) (sym is)
-    (subst (λ n. OfFile held n (λ whole. IsTooLong (outcome_of command whole))) named (too_long command held name long))
+-- the same, for the words
+pub delivered_calls : {S : Type 0} (said : Option Command) (command : Command) (held : Option Files) (asked : S → Option (List Call)) (a : Option (List Call)) (b c : S)
+    (made : Made) (u v : Option (List ℕ)) (m n : ℕ) (answer : Status) →
+    said ≡ Some command → MadeOf (Some command) held a (asked b) made → IsLate answer →
+    (answer ≡ Done → Appended (asked b) (asked c) (puts_to (file_name made.file))) →
+    (answer ≡ WriteFault → (c ≡ b) ⊎ PutAfter made u v (asked b) (asked c) m n) → AskedPrefix a (asked c) (calls_of said)
+delivered_calls said command held asked a b c made u v m n answer is of late done stop =
+    subst (λ s. AskedPrefix a (asked c) (calls_of s)) (sym is)
+    (subst (λ name. AskedPrefix a (asked c) (fetches_of (Some command) ++ puts_to name)) of.named
+    (calls_of_delivery asked a b c (fetches_of (Some command)) made u v m n answer late of.calls done stop))
 
-pub same_stop : (tick now : ℕ) (part other : Part) → Unbuilt tick part ≡ Unbuilt now other → Stops tick part ≡ Stops now other
-same_stop tick now part other e = cc
-
-pub same_fault : (rule other : ImageRule) (offset at : ℕ) → BadImage rule offset ≡ BadImage other at →
-    Broken (record { rule = rule; offset = offset }) ≡ Broken (record { rule = other; offset = at })
-same_fault rule other offset at e = cc
-
-pub same_refusal : (line number : ℕ) (reason other : AsmWhy) → BadSource line reason ≡ BadSource number other → Refused line reason ≡ Refused number other
-same_refusal line number reason other e = cc
+-- the calls of a command that makes nothing
+pub stopped_calls : (said : Option Command) (command : Command) (held : Option Files) (a b : Option (List Call)) (unread : Type 0) (answer : Status) →
+    said ≡ Some command → StoppedWith (Some command) held a b unread answer → AskedPrefix a b (calls_of said)
+stopped_calls said command held a b unread answer is stop =
+    subst (λ s. AskedPrefix a b (calls_of s)) (sym is)
+    (asked_fewer a b (fetches_of (Some command)) (puts_to (out_name (Some command))) stop.calls)

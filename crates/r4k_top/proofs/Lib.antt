@@ -1,3 +1,3 @@
-pub mod Cut
-pub mod Headline
+pub mod Reading
 pub mod Delivery
+pub mod Headline

@@ -1,70 +1,54 @@
--- What stands after each answer of the top call. Where the shelf does not tell what it holds, nothing is said of the
--- files' content; where the sink does not tell what was written, nothing of the text. A name that a told shelf lacks
--- is an empty file.
+-- What stands after each answer of the top call. Where the shelf does not tell what it holds, nothing is said of what the
+-- words come to; where the sink does not tell what was written, nothing of the text. A name that a told shelf lacks is an
+-- empty file.
 use Rattle.std.specs.Prelude.{◌≡◌, ◌≢◌, ℕ, List, ◌++◌, Option, Some, None}
 use Rattle.std.specs.FinMap.{get}
 use Rattle.r4_ports.specs.Told.{Files, Call, file_of, Appended, AppendedPrefix, PutInto, Rose}
-use Rattle.machine_core.specs.declared.talk.Part.{Part}
-use Rattle.mips_text.specs.declared.reason.AsmWhy.{AsmWhy}
-use Rattle.elf_image.specs.declared.rules.ImageRule.{ImageRule}
-use Rattle.r4k_top.specs.Command.{Command, fetched_name, put_name}
-use Rattle.r4k_top.specs.Outcome.{File, Made, Outcome, Completes, Stops, Broken, Refused, TooLong, outcome_of}
+use Rattle.r4k_top.specs.declared.statuses.Status.{Status}
+use Rattle.r4k_top.specs.Command.{Command, out_name}
+use Rattle.r4k_top.specs.Wanted.{Wanted, refusal_of, fetches_of, puts_to, calls_of}
+use Rattle.r4k_top.specs.Outcome.{File, file_name, Made, End, Makes, Refuses, Outcome, outcome_of}
+use Rattle.r4k_top.specs.Answers.{status_of, refused_status, MayStop, IsRefusal}
+
+-- WHAT THE WORDS COME TO
 
 -- a fact of the bytes of a file, where the files are told
 abbrev pub OfFile : Option Files → List ℕ → (List ℕ → Type 0) → Type 0
 OfFile None name P = Unit {0}
 OfFile (Some files) name P = P (file_of files name)
 
--- the words are a command, and the fact holds of what it comes to with the file that is held under its name
+-- a fact of what the words come to over the files that are held, where they are told
 abbrev pub ComesTo : Option Command → Option Files → (Outcome → Type 0) → Type 0
-ComesTo None held P = ⊥
-ComesTo (Some command) held P = OfFile held (fetched_name command) (λ bytes. P (outcome_of command bytes))
+ComesTo said None P = Unit {0}
+ComesTo said (Some files) P = P (outcome_of said (file_of files))
 
--- the job can be done, and the fact holds of what it makes
-abbrev pub Makes : (Made → Type 0) → Outcome → Type 0
-Makes P (Completes made) = P made
-Makes P (Stops tick part) = ⊥
-Makes P (Broken fault) = ⊥
-Makes P (Refused line reason) = ⊥
-Makes P TooLong = ⊥
+-- this is the status of what the words come to
+abbrev pub EndsWith : Option Command → Option Files → Status → Type 0
+EndsWith said held status = ComesTo said held (λ outcome. status ≡ status_of outcome.end)
+
+-- what is made, where something is, has the fact
+abbrev pub IfMade : (Made → Type 0) → End → Type 0
+IfMade P (Makes made) = P made
+IfMade P (Refuses refusal) = ⊥
+
+-- WHAT WAS WRITTEN AND PUT
 
 -- the whole text was appended
 abbrev pub Written : Option (List ℕ) → Option (List ℕ) → Outcome → Type 0
-Written before now = Makes (λ made. Appended before now made.text)
+Written before now outcome = IfMade (λ made. Appended before now made.text) outcome.end
 
 -- a prefix of the text was appended
 abbrev pub WrittenPrefix : Option (List ℕ) → Option (List ℕ) → Outcome → Type 0
-WrittenPrefix before now = Makes (λ made. AppendedPrefix before now made.text)
+WrittenPrefix before now outcome = IfMade (λ made. AppendedPrefix before now made.text) outcome.end
 
 -- the file was put, and nothing where there is none
 abbrev pub HasPut : Option Files → Option Files → Option File → Type 0
 HasPut before now None = now ≡ before
 HasPut before now (Some file) = PutInto before now file.name file.bytes
 
--- the file that the job makes was put
+-- the file that is made was put
 abbrev pub FilePut : Option Files → Option Files → Outcome → Type 0
-FilePut before now = Makes (λ made. HasPut before now made.file)
-
--- the run stops at this tick and part
-abbrev pub StopsAt : ℕ → Part → Outcome → Type 0
-StopsAt tick part outcome = outcome ≡ Stops tick part
-
--- the image breaks this rule first
-abbrev pub BreaksRule : ImageRule → ℕ → Outcome → Type 0
-BreaksRule rule offset outcome = outcome ≡ Broken (record { rule = rule; offset = offset })
-
--- the source is refused at this line, for this reason
-abbrev pub RefusesLine : ℕ → AsmWhy → Outcome → Type 0
-RefusesLine line reason outcome = outcome ≡ Refused line reason
-
--- the file has more bytes than its limit
-abbrev pub IsTooLong : Outcome → Type 0
-IsTooLong outcome = outcome ≡ TooLong
-
--- the name under which the words put a file, where they do
-abbrev pub out_name : Option Command → Option (List ℕ)
-out_name None = None
-out_name (Some command) = put_name command
+FilePut before now outcome = IfMade (λ made. HasPut before now made.file) outcome.end
 
 -- a file is put under the name, if there is one, and the count of failed puts rose
 abbrev pub PutRose : Option (List ℕ) → ℕ → ℕ → Type 0
@@ -77,9 +61,61 @@ OthersStay put before None = Unit {0}
 OthersStay put (Some before) (Some now) = (name : List ℕ) → put ≢ Some name → get now name ≡ get before name
 OthersStay put None (Some now) = ⊥
 
+-- THE CALLS OF THE SHELF
+
 -- a prefix of these calls was made of a shelf
 pub record AskedPrefix (before now : Option (List Call)) (calls : List Call) : Type 0 where
   pub made : List Call
   pub rest : List Call
   pub split : made ++ rest ≡ calls
   pub told : Appended before now made
+
+-- the calls are the fetches of what the words come to: up to the file that is refused, and no more
+abbrev pub AskedUpTo : Option Command → Option Files → Option (List Call) → Option (List Call) → Type 0
+AskedUpTo said held before now = ComesTo said held (λ outcome. Appended before now outcome.fetches)
+
+-- no put was tried: the calls are the fetches, and neither the files nor the count of failed puts changed
+pub record NoPut (said : Option Command) (asked_before asked : Option (List Call))
+    (held_before held : Option Files)
+    (before now : ℕ) : Type 0 where
+  pub calls : Appended asked_before asked (fetches_of said)
+  pub files : held ≡ held_before
+  pub faults : now ≡ before
+
+-- the put failed, the last of all calls, after the whole text had been written
+pub record PutFailed (said : Option Command) (held : Option Files) (text_before text_now : Option (List ℕ))
+    (asked_before asked : Option (List Call)) (before now : ℕ) : Type 0 where
+  pub text : ComesTo said held (Written text_before text_now)
+  pub calls : Appended asked_before asked (calls_of said)
+  pub rose : PutRose (out_name said) before now
+
+-- the put of what was made failed, after the whole text had been written
+pub record PutAfter (made : Made) (text_before text_now : Option (List ℕ))
+    (asked_before asked : Option (List Call)) (before now : ℕ) : Type 0 where
+  pub text : Appended text_before text_now made.text
+  pub calls : Appended asked_before asked (puts_to (file_name made.file))
+  pub rose : PutRose (file_name made.file) before now
+
+-- WHAT A COMMAND MAKES, BEFORE ANYTHING IS WRITTEN OR PUT
+
+-- a file is refused with this status
+abbrev pub RefusedAs : Option Files → Wanted → Status → Type 0
+RefusedAs held file status = OfFile held file.name (λ bytes. refused_status (refusal_of file bytes) ≡ Some status)
+
+-- a file is not refused
+abbrev pub Accepted : Option Files → Wanted → Type 0
+Accepted held file = OfFile held file.name (λ bytes. refusal_of file bytes ≡ None)
+
+-- all files were fetched, and this is made of them
+pub record MadeOf (said : Option Command) (held : Option Files) (before now : Option (List Call))
+    (made : Made) : Type 0 where
+  pub came : ComesTo said held (λ outcome. outcome.end ≡ Makes made)
+  pub named : file_name made.file ≡ out_name said
+  pub calls : Appended before now (fetches_of said)
+
+-- nothing is made, and the answer says why; a refusal comes after the fetches up to the file that is refused
+pub record StoppedWith (said : Option Command) (held : Option Files) (before now : Option (List Call))
+    (unread : Type 0) (status : Status) : Type 0 where
+  pub answer : MayStop unread (EndsWith said held) status
+  pub calls : AskedPrefix before now (fetches_of said)
+  pub up_to : IsRefusal status → AskedUpTo said held before now

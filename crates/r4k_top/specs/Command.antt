@@ -1,8 +1,7 @@
 -- The command that the words give, read by position. The words are this project's own.
-use Rattle.std.specs.Prelude.{ℕ, ◌==◌, Bool, List, [], ◌∷◌, length, codes, bytes_eq, string_bytes, slice_get, String, Vec, ◌&&◌, if◌then◌else◌, Option, Some, None}
+use Rattle.std.specs.Prelude.{ℕ, ◌==◌, Bool, List, [], length, codes, bytes_eq, string_bytes, slice_get, String, Vec, ◌&&◌, if◌then◌else◌, Option, Some, None}
 use Rattle.std.specs.declared.alloc.Global.{Global}
 use Rattle.r4_words.specs.Texts.{read_dec}
-use Rattle.r4_ports.specs.Told.{Call, fetch_of, put_of}
 
 -- the words after the program's name
 abbrev pub Words : Type 0
@@ -58,29 +57,13 @@ command_of words =
     else if is_dis words then Some (Disassemble (word words 1))
     else None
 
--- the name of the file that a command fetches
-abbrev pub fetched_name : Command → List ℕ
-fetched_name (Run image steps) = image
-fetched_name (Assemble source out) = source
-fetched_name (Disassemble image) = image
-
 -- the name under which a command puts a file, where it puts one
 abbrev pub put_name : Command → Option (List ℕ)
 put_name (Run image steps) = None
 put_name (Assemble source out) = Some out
 put_name (Disassemble image) = None
 
--- the put to a name, where there is one
-abbrev pub puts_to : Option (List ℕ) → List Call
-puts_to None = []
-puts_to (Some name) = put_of name ∷ []
-
--- the fetch that a command begins with
-abbrev pub fetches_of : Option Command → List Call
-fetches_of None = []
-fetches_of (Some command) = fetch_of (fetched_name command) ∷ []
-
--- the calls of the shelf that a command makes, in their order: its fetch, and then its put
-abbrev pub calls_of : Option Command → List Call
-calls_of None = []
-calls_of (Some command) = fetch_of (fetched_name command) ∷ puts_to (put_name command)
+-- the name under which the words put a file, where they do
+abbrev pub out_name : Option Command → Option (List ℕ)
+out_name None = None
+out_name (Some command) = put_name command

@@ -1,8 +1,9 @@
 pub mod Command
 pub mod CommandShown
 pub mod BootProm
+pub mod Wanted
 pub mod Outcome
 pub mod EndShown
-pub mod Clauses
 pub mod StatusText
 pub mod Answers
+pub mod Clauses

@@ -1,22 +1,20 @@
--- What a command comes to, as a function of the bytes of the file that it fetches. Each way in which a command can end
--- is one case, so that what stands after an answer is said once for all commands.
-use Rattle.std.specs.Prelude.{ℕ, List, [], length, nat_lt, Option, Some, None, if◌then◌else◌}
-use Rattle.elf_image.specs.declared.rules.ImageFault.{ImageFault}
-use Rattle.elf_image.specs.Rules.{image_fault}
+-- What the words come to, as a function of the bytes that stand under each name: how many of the files are fetched, and
+-- what is made of them, or why nothing is. What stands after an answer is said of it once for all commands.
+use Rattle.std.specs.Prelude.{ℕ, List, [], ◌∷◌, Option, Some, None}
 use Rattle.elf_image.specs.Written.{image_of}
-use Rattle.mips_text.specs.declared.reason.AsmWhy.{AsmWhy}
 use Rattle.mips_asm.specs.Assembly.{Assembly, Image, Bad, assembled}
 use Rattle.image_listing.specs.Listing.{listing_of}
 use Rattle.machine_core.specs.declared.machine_state.Machine.{Machine}
-use Rattle.machine_core.specs.declared.talk.Part.{Part}
 use Rattle.machine_core.specs.declared.ticking.Tick.{Tick}
 use Rattle.machine_core.specs.declared.ticking.Tick.TheVariants.{Ran, Halted, Unbuilt}
 use Rattle.machine_core.specs.Machine.{Reached, reset_of}
 use Rattle.machine_core.specs.Run.{run_of}
 use Rattle.machine_core.specs.Shown.{shown_of}
 use Rattle.machine_core.specs.Report.{report_of}
+use Rattle.r4_ports.specs.Told.{Call, fetch_of}
 use Rattle.r4k_top.specs.BootProm.{boot_prom}
 use Rattle.r4k_top.specs.Command.{Command, Run, Assemble, Disassemble}
+use Rattle.r4k_top.specs.Wanted.{Refusal, NoCommand, Refused, Stops, Wanted, refusal_of, wanted_of}
 
 -- a file for the shelf
 pub record File : Type 0 where
@@ -33,82 +31,72 @@ pub record Made : Type 0 where
   pub text : List ℕ
   pub file : Option File
 
--- What a command comes to with its file.
-pub data Outcome : Type 0 where
-  -- the job can be done, and this is what it makes
-  Completes : Made → Outcome
-  -- at this tick, numbered from 0, the run meets a part that is not built
-  Stops : ℕ → Part → Outcome
-  -- the image breaks this rule first
-  Broken : ImageFault → Outcome
-  -- the source is refused at this line, numbered from 1, for this reason
-  Refused : ℕ → AsmWhy → Outcome
-  -- the file has more bytes than its limit
-  TooLong : Outcome
-
--- a text, and no file
-abbrev pub text_alone : List ℕ → Outcome
-text_alone text = Completes (record { text = text; file = None })
-
--- a file, and no text
-abbrev pub file_alone : List ℕ → List ℕ → Outcome
-file_alone name bytes = Completes (record { text = []; file = Some (record { name = name; bytes = bytes }) })
-
--- a file that breaks a rule of images comes to the first that it breaks
-abbrev pub unless_broken : Option ImageFault → Outcome → Outcome
-unless_broken (Some fault) outcome = Broken fault
-unless_broken None outcome = outcome
+-- What a job comes to.
+pub data End : Type 0 where
+  -- it can be done, and this is what it makes
+  Makes : Made → End
+  -- it makes nothing
+  Refuses : Refusal → End
 
 -- THE RUN OF AN IMAGE
 
--- the report of a machine
-abbrev pub report_at : Machine → Outcome
-report_at machine = text_alone (report_of (shown_of machine))
+-- a machine is reported
+abbrev pub report_at : Machine → End
+report_at machine = Makes (record { text = report_of (shown_of machine); file = None })
 
 -- a run that ended at a halt or at the bound makes its report
-abbrev pub run_end : Machine → Tick → Outcome
+abbrev pub run_end : Machine → Tick → End
 run_end machine Ran = report_at machine
 run_end machine (Halted code) = report_at machine
-run_end machine (Unbuilt part) = Stops machine.cpu.ticks part
+run_end machine (Unbuilt part) = Refuses (Stops machine.cpu.ticks part)
 
 -- the run of an image's bytes from reset
 abbrev pub run_image : ℕ → List ℕ → Reached
 run_image steps bytes = run_of steps (reset_of boot_prom bytes)
 
--- what a run of an image comes to, within this bound on its ticks
-unfoldable pub run_outcome : ℕ → List ℕ → Outcome
-run_outcome steps bytes =
-    unless_broken (image_fault bytes) (run_end (run_image steps bytes).machine (run_image steps bytes).answer)
+-- what the run of an image comes to, within this bound on its ticks
+unfoldable pub run_job : ℕ → List ℕ → End
+run_job steps bytes = run_end (run_image steps bytes).machine (run_image steps bytes).answer
 
 -- THE IMAGE OF A SOURCE
 
 -- an image, put under a name
-abbrev pub put_image : List ℕ → Assembly → Outcome
-put_image name (Image base entry bytes) = file_alone name (image_of base entry bytes)
-put_image name (Bad line reason) = Refused line reason
-
--- what a source comes to: its image, put under this name, or the first line that is refused
-unfoldable pub asm_outcome : List ℕ → List ℕ → Outcome
-asm_outcome name source = put_image name (assembled source)
+abbrev pub put_image : List ℕ → Assembly → End
+put_image name (Image base entry bytes) =
+    Makes (record { text = []; file = Some (record { name = name; bytes = image_of base entry bytes }) })
+put_image name (Bad line reason) = Refuses (Refused line reason)
 
 -- THE LISTING OF AN IMAGE
 
--- what the listing of an image comes to
-unfoldable pub list_outcome : List ℕ → Outcome
-list_outcome bytes = unless_broken (image_fault bytes) (text_alone (listing_of bytes))
+-- the listing of an image
+abbrev pub list_job : List ℕ → End
+list_job bytes = Makes (record { text = listing_of bytes; file = None })
 
 -- ALL COMMANDS
 
--- what a command comes to with a file within its limit
-abbrev pub outcome_within : Command → List ℕ → Outcome
-outcome_within (Run image steps) bytes = run_outcome steps bytes
-outcome_within (Assemble source out) bytes = asm_outcome out bytes
-outcome_within (Disassemble image) bytes = list_outcome bytes
+-- what the job of a command comes to, over the bytes that stand under each name, where no file is refused
+abbrev pub job_of : Command → (List ℕ → List ℕ) → End
+job_of (Run image steps) held = run_job steps (held image)
+job_of (Assemble source out) held = put_image out (assembled (held source))
+job_of (Disassemble image) held = list_job (held image)
 
--- the most bytes of an image and of a source
-abbrev pub file_limit : ℕ
-file_limit = 16777216
+-- What the words come to: the fetches that are made, and the end.
+pub record Outcome : Type 0 where
+  pub fetches : List Call
+  pub end : End
 
--- what a command comes to
-unfoldable pub outcome_of : Command → List ℕ → Outcome
-outcome_of command bytes = if nat_lt file_limit (length bytes) then TooLong else outcome_within command bytes
+-- a file is fetched, and where it is refused nothing comes after it
+abbrev pub after_fetch : Call → Option Refusal → Outcome → Outcome
+after_fetch fetch (Some refusal) rest = record { fetches = fetch ∷ []; end = Refuses refusal }
+after_fetch fetch None rest = record { fetches = fetch ∷ rest.fetches; end = rest.end }
+
+-- the files are fetched in their order, up to the first that is refused; behind them all comes the job
+abbrev pub outcome_over : (List ℕ → List ℕ) → List Wanted → End → Outcome
+outcome_over held [] end = record { fetches = []; end = end }
+outcome_over held (file ∷ files) end =
+    after_fetch (fetch_of file.name) (refusal_of file (held file.name)) (outcome_over held files end)
+
+-- what the words come to, over the bytes that stand under each name
+unfoldable pub outcome_of : Option Command → (List ℕ → List ℕ) → Outcome
+outcome_of None held = record { fetches = []; end = Refuses NoCommand }
+outcome_of (Some command) held = outcome_over held (wanted_of command) (job_of command held)

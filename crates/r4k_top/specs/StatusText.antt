@@ -1,5 +1,5 @@
 -- The numbers and the lines of the statuses. Both are this project's own.
-use Rattle.std.specs.Prelude.{ℕ, List, ◌++◌, codes}
+use Rattle.std.specs.Prelude.{ℕ, List, [], ◌++◌, codes}
 use Rattle.r4_words.specs.Texts.{dec_of}
 use Rattle.elf_image.specs.declared.rules.ImageRule.{ImageRule}
 use Rattle.elf_image.specs.declared.rules.ImageRule.TheVariants as rule
@@ -70,3 +70,8 @@ status_line (BadSource line reason) = bad_source_line line reason
 status_line Memory = codes "Memory\n"
 status_line TooLong = codes "TooLong\n"
 status_line (Unbuilt tick part) = unbuilt_line tick part
+
+-- what the program complains of with a status: nothing of Done, and the line of every other
+abbrev pub complaint_of : Status → List ℕ
+complaint_of Done = []
+complaint_of status = status_line status

@@ -17,22 +17,6 @@ pub enum Command<'a> {
     Disassemble { image: &'a str },
 }
 
-impl<'a> Command<'a> {
-    ghost use Rattle.std.specs.Prelude.{◌≡◌};
-    ghost use Rattle.r4k_top.specs.Command.{fetched_name};
-    ghost use Rattle.r4k_top.specs.CommandShown.{command_shown};
-
-    /// The name of the file that the command fetches.
-    pub fn file(&self) -> &'a str
-        ensures { result.now ≡ fetched_name (command_shown self.now) }
-    {
-        match *self {
-            Command::Run { image, .. } | Command::Disassemble { image } => image,
-            Command::Assemble { source, .. } => source,
-        }
-    }
-}
-
 // The word at a position, or an empty text.
 fn word<'a>(words: &'a Vec<String>, at: usize) -> &'a str
     ensures text { result.now ≡ word words.now at }

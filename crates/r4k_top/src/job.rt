@@ -1,89 +1,115 @@
-//! The jobs of the commands, each over the bytes of the file that its command fetches. A job writes and puts nothing.
+//! What the commands make, each of the files that it wants: a straight line of readers, and then the job. Nothing is
+//! written or put here.
 
-ghost use Rattle.std.specs.Prelude.{◌≡◌, ◌≤◌, length, IfOk};
-ghost use Rattle.r4k_top.specs.Outcome.{file_limit, run_outcome, asm_outcome, list_outcome, outcome_within};
+ghost use Rattle.std.specs.Prelude.{◌≡◌, IfOk, IfErr, Some};
+ghost use Rattle.r4_ports.specs.Told.{Rose};
+ghost use Rattle.r4k_top.specs.Command as law;
 ghost use Rattle.r4k_top.specs.CommandShown.{command_shown};
-ghost use Rattle.r4k_top.specs.EndShown.{outcome_shown};
+ghost use Rattle.r4k_top.specs.Outcome.{Makes, Refuses, run_job};
+ghost use Rattle.r4k_top.specs.Answers.{status_of, MayStop};
+ghost use Rattle.r4k_top.specs.Clauses.{MadeOf, StoppedWith};
+ghost use Rattle.r4k_top.specs.EndShown.{made_shown};
 
 use crate::commands::Command;
+use crate::files::{ImageFile, read_image_file, read_source};
 use crate::product::Product;
 use crate::prom_words::boot_prom;
-use elf_image::{ImageFault, read_image, write_image};
-use machine_core::{Machine, Part, Tick};
-use mips_asm::{AsmFault, assemble};
-use mips_text::AsmWhy;
-use r4_words::Memory;
-use std::alloc::{AllocError, Global};
-
-/// How a job ended.
-#[derive(Drop)]
-pub enum Ended<'a> {
-    /// It can be done, and this is what it makes.
-    Made(Product<'a>),
-    /// The run met a part that is not built.
-    Stopped { tick: u32, part: Part },
-    /// The image breaks a rule.
-    Broken(ImageFault),
-    /// The source is refused at a line.
-    Refused { line: u32, why: AsmWhy },
-}
+use crate::statuses::Status;
+use elf_image::write_image;
+use machine_core::{Machine, Tick};
+use r4_ports::Shelf;
+use std::alloc::Global;
 
 // Runs an image from reset for at most so many ticks. All memory is taken before the first tick.
-#[tactic(auto, unfolding(crate::specs::Outcome::run_outcome))]
-fn run_image<'a>(alloc: Global, bytes: &[u8], steps: u32) -> Result<Ended<'a>, Memory>
-    requires short { length bytes.now ≤ file_limit }
-    ensures outcome { IfOk result (λ ended. run_outcome steps bytes.now ≡ outcome_shown ended) }
+#[tactic(auto, unfolding(crate::specs::Outcome::run_job))]
+fn run_image<'a>(alloc: Global, image: &ImageFile, steps: u32) -> Result<Product<'a>, Status>
+    ensures made { IfOk result (λ product. run_job steps image.now ≡ Makes (made_shown product)) }
+    ensures stopped { IfErr result (MayStop ⊥ (λ status. status ≡ status_of (run_job steps image.now))) }
 {
-    let image = match read_image(bytes) {
-        Ok(image) => image,
-        Err(fault) => return Ok(Ended::Broken(fault)),
-    };
-    let mut machine = Machine::new(alloc, &boot_prom(), &image)?;
+    let mut machine = Machine::new(alloc, &boot_prom(), &image.image())?;
     match machine.run(steps) {
-        Tick::Unbuilt(part) => Ok(Ended::Stopped {
+        Tick::Unbuilt(part) => Err(Status::Unbuilt {
             tick: machine.cpu.ticks,
             part,
         }),
-        Tick::Ran | Tick::Halted(_) => Ok(Ended::Made(Product::Report(machine))),
+        Tick::Ran | Tick::Halted(_) => Ok(Product::Report(machine)),
     }
 }
 
-// Assembles a source, whose image is put under a name.
-#[tactic(auto, unfolding(crate::specs::Outcome::asm_outcome))]
-fn assemble_source<'a>(alloc: Global, source: &[u8], name: &'a str) -> Result<Ended<'a>, Memory>
-    requires short { length source.now ≤ file_limit }
-    ensures outcome { IfOk result (λ ended. asm_outcome name.now source.now ≡ outcome_shown ended) }
+// Makes the report of a run.
+fn make_report<'a, F: Shelf>(
+    alloc: Global,
+    image: &str,
+    steps: u32,
+    shelf: &mut F,
+) -> Result<Product<'a>, Status>
+    ensures made { IfOk result (λ product. MadeOf (Some (law.Run image.now steps))
+        (F.held shelf.old) (F.asked shelf.old) (F.asked shelf.new) (made_shown product)) }
+    ensures stopped { IfErr result (StoppedWith (Some (law.Run image.now steps))
+        (F.held shelf.old) (F.asked shelf.old) (F.asked shelf.new)
+        (Rose (F.fetch_faults shelf.old) (F.fetch_faults shelf.new))) }
+    ensures held { F.held shelf.new ≡ F.held shelf.old }
+    ensures put_faults { F.put_faults shelf.new ≡ F.put_faults shelf.old }
 {
-    match assemble(alloc, source) {
-        Ok(built) => {
-            let bytes = write_image(alloc, built.base, built.entry, &built.bytes)?;
-            Ok(Ended::Made(Product::File { name, bytes }))
-        }
-        Err(AsmFault::Bad { line, why }) => Ok(Ended::Refused { line, why }),
-        Err(AsmFault::Memory) => Err(AllocError),
-    }
+    let image = read_image_file(alloc, image, shelf)?;
+    run_image(alloc, &image, steps)
 }
 
-// Reads an image, whose listing is written.
-#[tactic(auto, unfolding(crate::specs::Outcome::list_outcome))]
-fn list_image<'a>(bytes: &'a [u8]) -> Ended<'a>
-    requires short { length bytes.now ≤ file_limit }
-    ensures outcome { list_outcome bytes.now ≡ outcome_shown result }
+// Makes the image of a source, for a name.
+fn make_image<'a, F: Shelf>(
+    alloc: Global,
+    source: &str,
+    out: &'a str,
+    shelf: &mut F,
+) -> Result<Product<'a>, Status>
+    ensures made { IfOk result (λ product. MadeOf (Some (law.Assemble source.now out.now))
+        (F.held shelf.old) (F.asked shelf.old) (F.asked shelf.new) (made_shown product)) }
+    ensures stopped { IfErr result (StoppedWith (Some (law.Assemble source.now out.now))
+        (F.held shelf.old) (F.asked shelf.old) (F.asked shelf.new)
+        (Rose (F.fetch_faults shelf.old) (F.fetch_faults shelf.new))) }
+    ensures held { F.held shelf.new ≡ F.held shelf.old }
+    ensures put_faults { F.put_faults shelf.new ≡ F.put_faults shelf.old }
 {
-    match read_image(bytes) {
-        Ok(image) => Ended::Made(Product::Listing(image)),
-        Err(fault) => Ended::Broken(fault),
-    }
+    let built = read_source(alloc, source, shelf)?;
+    let bytes = write_image(alloc, built.base, built.entry, &built.bytes)?;
+    Ok(Product::File { name: out, bytes })
 }
 
-/// Does the job of a command, up to what is to be written and put.
-pub fn do_job<'a>(alloc: Global, command: &Command<'a>, file: &'a [u8]) -> Result<Ended<'a>, Memory>
-    requires short { length file.now ≤ file_limit }
-    ensures outcome { IfOk result (λ ended. outcome_within (command_shown command.now) file.now ≡ outcome_shown ended) }
+// Makes the listing of an image.
+fn make_listing<'a, F: Shelf>(
+    alloc: Global,
+    image: &str,
+    shelf: &mut F,
+) -> Result<Product<'a>, Status>
+    ensures made { IfOk result (λ product. MadeOf (Some (law.Disassemble image.now))
+        (F.held shelf.old) (F.asked shelf.old) (F.asked shelf.new) (made_shown product)) }
+    ensures stopped { IfErr result (StoppedWith (Some (law.Disassemble image.now))
+        (F.held shelf.old) (F.asked shelf.old) (F.asked shelf.new)
+        (Rose (F.fetch_faults shelf.old) (F.fetch_faults shelf.new))) }
+    ensures held { F.held shelf.new ≡ F.held shelf.old }
+    ensures put_faults { F.put_faults shelf.new ≡ F.put_faults shelf.old }
+{
+    let image = read_image_file(alloc, image, shelf)?;
+    Ok(Product::Listing(image))
+}
+
+/// Makes what a command asks for, or answers why nothing is made.
+pub fn make<'a, F: Shelf>(
+    alloc: Global,
+    command: &Command<'a>,
+    shelf: &mut F,
+) -> Result<Product<'a>, Status>
+    ensures made { IfOk result (λ product. MadeOf (Some (command_shown command.now))
+        (F.held shelf.old) (F.asked shelf.old) (F.asked shelf.new) (made_shown product)) }
+    ensures stopped { IfErr result (StoppedWith (Some (command_shown command.now))
+        (F.held shelf.old) (F.asked shelf.old) (F.asked shelf.new)
+        (Rose (F.fetch_faults shelf.old) (F.fetch_faults shelf.new))) }
+    ensures held { F.held shelf.new ≡ F.held shelf.old }
+    ensures put_faults { F.put_faults shelf.new ≡ F.put_faults shelf.old }
 {
     match *command {
-        Command::Run { steps, .. } => run_image(alloc, file, steps),
-        Command::Assemble { out, .. } => assemble_source(alloc, file, out),
-        Command::Disassemble { .. } => Ok(list_image(file)),
+        Command::Run { image, steps } => make_report(alloc, image, steps, shelf),
+        Command::Assemble { source, out } => make_image(alloc, source, out, shelf),
+        Command::Disassemble { image } => make_listing(alloc, image, shelf),
     }
 }

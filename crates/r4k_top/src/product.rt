@@ -1,13 +1,15 @@
 //! What a job makes, and its way out: first its text to the sink, then its file to the shelf.
 
-ghost use Rattle.std.specs.Prelude.{◌≡◌, ◌≤◌, ◌⊎◌, OnOk, OnErr, IsNone};
+ghost use Rattle.std.specs.Prelude.{◌≡◌, ◌⊎◌, OnOk, OnErr, IsNone};
 ghost use Rattle.r4_ports.specs.Told.{Appended, AppendedPrefix, HasCause, Rose};
-ghost use Rattle.r4k_top.specs.Clauses.{HasPut, PutRose, OthersStay, AskedPrefix};
-ghost use Rattle.r4k_top.specs.Command.{puts_to};
+ghost use Rattle.r4k_top.specs.Wanted.{puts_to};
 ghost use Rattle.r4k_top.specs.Outcome.{file_name};
+ghost use Rattle.r4k_top.specs.Answers.{IsLate};
+ghost use Rattle.r4k_top.specs.Clauses.{HasPut, PutRose, PutAfter, OthersStay};
 ghost use Rattle.r4k_top.specs.EndShown.{made_shown};
 
-use elf_image::Image;
+use crate::files::ImageFile;
+use crate::statuses::Status;
 use image_listing::write_listing;
 use machine_core::{Machine, write_report};
 use r4_ports::{PutFault, Shelf, Sink, SinkFault};
@@ -18,14 +20,10 @@ pub enum Product<'a> {
     /// The machine at the end of a run, of which the report is written.
     Report(Machine),
     /// An image, of which the listing is written.
-    Listing(Image<'a>),
+    Listing(ImageFile),
     /// A file, which is put under a name.
     File { name: &'a str, bytes: Vec<u8> },
 }
-
-/// A write of the sink failed, or the put did.
-#[derive(Clone, Copy)]
-pub struct Undelivered;
 
 // Writes the text.
 fn write_text<K: Sink>(product: &Product<'_>, out: &mut K) -> Result<(), SinkFault>
@@ -35,7 +33,7 @@ fn write_text<K: Sink>(product: &Product<'_>, out: &mut K) -> Result<(), SinkFau
 {
     match product {
         Product::Report(machine) => write_report(&machine.view(), out),
-        Product::Listing(image) => write_listing(image, out),
+        Product::Listing(image) => write_listing(&image.image(), out),
         Product::File { .. } => Ok(()),
     }
 }
@@ -43,10 +41,12 @@ fn write_text<K: Sink>(product: &Product<'_>, out: &mut K) -> Result<(), SinkFau
 // Puts the file, if there is one.
 fn put_file<F: Shelf>(product: &Product<'_>, shelf: &mut F) -> Result<(), PutFault>
     ensures ok { OnOk result (HasPut (F.held shelf.old) (F.held shelf.new) (made_shown product.now).file) }
-    ensures cause { OnErr result (PutRose (file_name (made_shown product.now).file) (F.put_faults shelf.old) (F.put_faults shelf.new)) }
+    ensures cause { OnErr result
+        (PutRose (file_name (made_shown product.now).file) (F.put_faults shelf.old) (F.put_faults shelf.new)) }
     ensures none { IsNone (made_shown product.now).file → shelf.new ≡ shelf.old }
     ensures others { OthersStay (file_name (made_shown product.now).file) (F.held shelf.old) (F.held shelf.new) }
-    ensures asked { Appended (F.asked shelf.old) (F.asked shelf.new) (puts_to (file_name (made_shown product.now).file)) }
+    ensures asked { Appended (F.asked shelf.old) (F.asked shelf.new)
+        (puts_to (file_name (made_shown product.now).file)) }
 {
     match product {
         Product::Report(_) | Product::Listing(_) => Ok(()),
@@ -54,33 +54,35 @@ fn put_file<F: Shelf>(product: &Product<'_>, shelf: &mut F) -> Result<(), PutFau
     }
 }
 
-/// Writes the text that a job makes, and puts its file.
-pub fn deliver<F: Shelf, K: Sink>(
-    product: &Product<'_>,
-    shelf: &mut F,
-    out: &mut K,
-) -> Result<(), Undelivered>
-    ensures written { OnOk result (Appended (K.written out.old) (K.written out.new) (made_shown product.now).text) }
-    ensures put { OnOk result (HasPut (F.held shelf.old) (F.held shelf.new) (made_shown product.now).file) }
+/// Writes the text that a job makes, and puts its file: Done, or WriteFault.
+pub fn deliver<F: Shelf, K: Sink>(product: &Product<'_>, shelf: &mut F, out: &mut K) -> Status
+    ensures late { IsLate result }
+    ensures written { result ≡ Status.Done →
+        Appended (K.written out.old) (K.written out.new) (made_shown product.now).text }
+    ensures put { result ≡ Status.Done →
+        HasPut (F.held shelf.old) (F.held shelf.new) (made_shown product.now).file }
+    ensures asked { result ≡ Status.Done → Appended (F.asked shelf.old) (F.asked shelf.new)
+        (puts_to (file_name (made_shown product.now).file)) }
 
-    // A failure comes after a prefix of the text. It has its cause in the sink or in the put, and without a failed put
-    // nothing was put.
-    ensures prefix { OnErr result (AppendedPrefix (K.written out.old) (K.written out.new) (made_shown product.now).text) }
-    ensures cause { OnErr result (Rose (K.faults out.old) (K.faults out.new) ⊎ PutRose (file_name (made_shown product.now).file) (F.put_faults shelf.old) (F.put_faults shelf.new)) }
-    ensures nothing_put { OnErr result (¬ PutRose (file_name (made_shown product.now).file) (F.put_faults shelf.old) (F.put_faults shelf.new) → shelf.new ≡ shelf.old) }
+    // A failure is that of a write, after a prefix of the text, and then the shelf stays; or that of the put, after the
+    // whole text.
+    ensures prefix { result ≡ Status.WriteFault →
+        AppendedPrefix (K.written out.old) (K.written out.new) (made_shown product.now).text }
+    ensures cause { result ≡ Status.WriteFault → Rose (K.faults out.old) (K.faults out.new)
+        ⊎ PutRose (file_name (made_shown product.now).file) (F.put_faults shelf.old) (F.put_faults shelf.new) }
+    ensures stops { result ≡ Status.WriteFault → (shelf.new ≡ shelf.old)
+        ⊎ PutAfter (made_shown product.now) (K.written out.old) (K.written out.new)
+        (F.asked shelf.old) (F.asked shelf.new) (F.put_faults shelf.old) (F.put_faults shelf.new) }
 
     // Without a file the shelf stays; with one, its other files do.
     ensures none { IsNone (made_shown product.now).file → shelf.new ≡ shelf.old }
     ensures others { OthersStay (file_name (made_shown product.now).file) (F.held shelf.old) (F.held shelf.new) }
-
-    ensures asked { AskedPrefix (F.asked shelf.old) (F.asked shelf.new) (puts_to (file_name (made_shown product.now).file)) }
-    ensures asked_all { OnOk result (Appended (F.asked shelf.old) (F.asked shelf.new) (puts_to (file_name (made_shown product.now).file))) }
 {
     if write_text(product, out).is_err() {
-        return Err(Undelivered);
+        return Status::WriteFault;
     }
     match put_file(product, shelf) {
-        Ok(()) => Ok(()),
-        Err(_) => Err(Undelivered),
+        Ok(()) => Status::Done,
+        Err(_) => Status::WriteFault,
     }
 }

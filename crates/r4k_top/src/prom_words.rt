@@ -6,19 +6,39 @@ ghost use Rattle.r4k_top.specs.BootProm as law;
 
 use flat_ram::Prom;
 
-// lui k1,0x40; mtc0 k1,Status; lui k0,0xbf00; lw k0,36(k0); jr k0; nop
+// At 000.
 const BOOT: [u32; 6] = [
-    0x3c1b0040, 0x409b6000, 0x3c1abf00, 0x8f5a0024, 0x03400008, 0,
+    0x3c1b0040, // 000 lui k1,0x40
+    0x409b6000, // 004 mtc0 k1,Status
+    0x3c1abf00, // 008 lui k0,0xbf00
+    0x8f5a0024, // 00c lw k0,36(k0)
+    0x03400008, // 010 jr k0
+    0x00000000, // 014 nop
 ];
 
-// lui k0,0x8000; jr k0; nop
-const REFILL: [u32; 3] = [0x3c1a8000, 0x03400008, 0];
+// At 200.
+const REFILL: [u32; 3] = [
+    0x3c1a8000, // 200 lui k0,0x8000
+    0x03400008, // 204 jr k0
+    0x00000000, // 208 nop
+];
 
-// mfc0 k0,Cause; andi k0,k0,0x7c; xori k1,k0,0x7c; beq k1,zero,V; xori k0,k0,0x38; beq k0,zero,V; nop;
-// lui k0,0x8000; ori k0,k0,0x180; jr k0; nop; V: mfc0 k0,BadVAddr; cache 0x17,0(k0); eret
+// At 380.
 const HANDLER: [u32; 14] = [
-    0x401a6800, 0x335a007c, 0x3b5b007c, 0x13600007, 0x3b5a0038, 0x13400005, 0, 0x3c1a8000,
-    0x375a0180, 0x03400008, 0, 0x401a4000, 0xbf570000, 0x42000018,
+    0x401a6800, // 380 mfc0 k0,Cause
+    0x335a007c, // 384 andi k0,k0,0x7c
+    0x3b5b007c, // 388 xori k1,k0,0x7c
+    0x13600007, // 38c beq k1,zero,3ac
+    0x3b5a0038, // 390 xori k0,k0,0x38
+    0x13400005, // 394 beq k0,zero,3ac
+    0x00000000, // 398 nop
+    0x3c1a8000, // 39c lui k0,0x8000
+    0x375a0180, // 3a0 ori k0,k0,0x180
+    0x03400008, // 3a4 jr k0
+    0x00000000, // 3a8 nop
+    0x401a4000, // 3ac mfc0 k0,BadVAddr
+    0xbf570000, // 3b0 cache 0x17,0(k0)
+    0x42000018, // 3b4 eret
 ];
 
 // Replaces the words from an index on.

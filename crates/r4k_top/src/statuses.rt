@@ -2,17 +2,17 @@
 
 ghost use Rattle.std.specs.Prelude.{◌≡◌, ◌≤◌, ◌+◌, ◌++◌, length, OnOk, OnErr};
 ghost use Rattle.arrayvec.specs.ArrayVec.{array_vec_len};
-ghost use Rattle.r4_ports.specs.Told.{Appended, AppendedPrefix, HasCause};
+ghost use Rattle.r4_ports.specs.Told.{Appended, AppendedPrefix, HasCause, Rose};
 ghost use Rattle.r4k_top.specs.StatusText as law;
 
 use elf_image::ImageRule;
 use machine_core::Part;
 use mips_text::AsmWhy;
 use r4_ports::{Sink, SinkFault, write_all};
-use r4_words::{Line, put_dec, put_text};
+use r4_words::{Line, Memory, put_dec, put_text};
 
 /// How the program ended.
-#[derive(Clone, Copy, Debug, PartialEq, Eq)]
+#[derive(Clone, Copy, PartialEq, Eq)]
 pub enum Status {
     /// The job is complete.
     Done,
@@ -32,6 +32,17 @@ pub enum Status {
     TooLong,
     /// The run met a part that is not built yet, at this tick, numbered from 0.
     Unbuilt { tick: u32, part: Part },
+}
+
+impl From<Memory> for Status {
+    ghost use Rattle.std.specs.Prelude.{◌≡◌};
+    ghost use Rattle.r4k_top.specs.declared.statuses.Status.TheVariants.{Memory};
+
+    ghost from_gives = { λ _ status. status ≡ Memory };
+
+    fn from(_: Memory) -> Self {
+        Status::Memory
+    }
 }
 
 /// The number of a status, with which the program ends.
@@ -168,4 +179,23 @@ pub fn write_status<K: Sink>(status: &Status, out: &mut K) -> Result<(), SinkFau
 {
     let line = status_line(status);
     write_all(line.as_slice(), out)
+}
+
+/// What the program does with its answer: nothing is written of Done, and of every other status its line, whatever comes
+/// of that write. The result is the number with which the program ends.
+pub fn report_status<K: Sink>(status: &Status, complaints: &mut K) -> u8
+    ensures number { result ≡ law.number_of status.now }
+    ensures silent { status.now ≡ Status.Done → complaints.new ≡ complaints.old }
+    ensures prefix { AppendedPrefix (K.written complaints.old) (K.written complaints.new)
+        (law.complaint_of status.now) }
+    ensures whole { ¬ Rose (K.faults complaints.old) (K.faults complaints.new) →
+        Appended (K.written complaints.old) (K.written complaints.new) (law.complaint_of status.now) }
+{
+    match status {
+        Status::Done => {}
+        other => {
+            let _ = write_status(other, complaints);
+        }
+    }
+    status_number(status)
 }
