@@ -2,12 +2,14 @@
 ghost use Rattle.std.specs.Prelude.{◌≡◌, ◌+◌, ◌≤◌, length};
 ghost use Rattle.flat_ram.specs.Bytes as law;
 
+use byteorder::{BigEndian, ByteOrder};
+
 /// The half in two bytes.
 pub fn half_at(bytes: &[u8], at: usize) -> u16
     requires { at + 2 ≤ length bytes.now }
     ensures { result ≡ law.half_at bytes.now at }
 {
-    u16::from_be_bytes([bytes[at], bytes[at + 1]])
+    BigEndian::read_u16(&bytes[at..])
 }
 
 /// The word in four bytes.
@@ -15,5 +17,5 @@ pub fn word_at(bytes: &[u8], at: usize) -> u32
     requires { at + 4 ≤ length bytes.now }
     ensures { result ≡ law.word_at bytes.now at }
 {
-    u32::from_be_bytes([bytes[at], bytes[at + 1], bytes[at + 2], bytes[at + 3]])
+    BigEndian::read_u32(&bytes[at..])
 }
