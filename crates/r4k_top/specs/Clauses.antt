@@ -74,13 +74,14 @@ pub record AskedPrefix (before now : Option (List Call)) (calls : List Call) : T
 abbrev pub AskedUpTo : Option Command → Option Files → Option (List Call) → Option (List Call) → Type 0
 AskedUpTo said held before now = ComesTo said held (λ outcome. Appended before now outcome.fetches)
 
--- no put was tried: the calls are the fetches, and neither the files nor the count of failed puts changed
-pub record NoPut (said : Option Command) (asked_before asked : Option (List Call))
-    (held_before held : Option Files)
-    (before now : ℕ) : Type 0 where
+-- a write failed: the sink's count of faults rose, and no put was tried: the calls are the fetches, and neither the files
+-- nor the count of failed puts changed
+pub record WriteFailed (said : Option Command) (faults_before faults : ℕ) (asked_before asked : Option (List Call))
+    (held_before held : Option Files) (puts_before puts : ℕ) : Type 0 where
+  pub rose : Rose faults_before faults
   pub calls : Appended asked_before asked (fetches_of said)
   pub files : held ≡ held_before
-  pub faults : now ≡ before
+  pub no_put : puts ≡ puts_before
 
 -- the put failed, the last of all calls, after the whole text had been written
 pub record PutFailed (said : Option Command) (held : Option Files) (text_before text_now : Option (List ℕ))

@@ -1,11 +1,11 @@
 //! Files of the shelf, fetched whole: one reader for each kind of file. A reader answers what is of its kind, or the status
 //! with which the call ends.
 
-ghost use Rattle.std.specs.Prelude.{◌≡◌, ◌≤◌, ◌<◌, ◌^◌, ◌∷◌, [], length, IfOk, IfErr, OnOk, OnErr};
+ghost use Rattle.std.specs.Prelude.{◌≡◌, ◌≤◌, ◌<◌, ◌^◌, ◌∷◌, [], length, IfOk, IfErr, OnOk, Some};
 ghost use Rattle.r4_ports.specs.Told.{Rose, Appended, fetch_of};
 ghost use Rattle.mips_asm.specs.Assembly as assembly;
-ghost use Rattle.r4k_top.specs.Wanted.{file_limit, an_image, a_source};
-ghost use Rattle.r4k_top.specs.Answers.{MayStop};
+ghost use Rattle.r4k_top.specs.Wanted.{file_limit, an_image, a_source, line_refusal};
+ghost use Rattle.r4k_top.specs.Answers.{MayStop, refused_status};
 ghost use Rattle.r4k_top.specs.Clauses.{OfFile, Accepted, RefusedAs};
 ghost use Rattle.r4k_top.specs.declared.statuses.Status.TheVariants.{TooLong};
 
@@ -102,6 +102,22 @@ pub fn read_image_file<F: Shelf>(
     Ok(ImageFile { bytes })
 }
 
+// Assembles a source.
+fn assemble_source(alloc: Global, source: &[u8]) -> Result<Built, Status>
+    requires { length source.now ≤ file_limit }
+    ensures built { IfOk result (λ built.
+        assembly.assembled source.now ≡ assembly.Image built.base built.entry built.bytes.items) }
+    ensures size { IfOk result (λ built. length built.bytes.items ≤ 8388608) }
+    ensures stopped { IfErr result (MayStop ⊥
+        (λ status. refused_status (line_refusal (assembly.assembled source.now)) ≡ Some status)) }
+{
+    match assemble(alloc, source) {
+        Ok(built) => Ok(built),
+        Err(AsmFault::Bad { line, why }) => Err(Status::BadSource { line, why }),
+        Err(AsmFault::Memory) => Err(Status::Memory),
+    }
+}
+
 /// Reads a source, and assembles it.
 pub fn read_source<F: Shelf>(alloc: Global, name: &str, shelf: &mut F) -> Result<Built, Status>
     ensures built { IfOk result (λ built. OfFile (F.held shelf.old) name.now (λ bytes.
@@ -116,9 +132,5 @@ pub fn read_source<F: Shelf>(alloc: Global, name: &str, shelf: &mut F) -> Result
     ensures asked { Appended (F.asked shelf.old) (F.asked shelf.new) (fetch_of name.now ∷ []) }
 {
     let source = fetch_file(alloc, name, FILE_LIMIT, shelf)?;
-    match assemble(alloc, &source) {
-        Ok(built) => Ok(built),
-        Err(AsmFault::Bad { line, why }) => Err(Status::BadSource { line, why }),
-        Err(AsmFault::Memory) => Err(Status::Memory),
-    }
+    assemble_source(alloc, &source)
 }

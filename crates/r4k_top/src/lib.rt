@@ -12,7 +12,7 @@ ghost use Rattle.r4k_top.specs.Command.{command_of, out_name};
 ghost use Rattle.r4k_top.specs.Wanted.{fetches_of, calls_of};
 ghost use Rattle.r4k_top.specs.Answers.{MayAnswer, IsEarly, IsRefusal, PutsNothing};
 ghost use Rattle.r4k_top.specs.Clauses.{ComesTo, EndsWith, Written, WrittenPrefix, FilePut, PutRose, OthersStay};
-ghost use Rattle.r4k_top.specs.Clauses.{AskedPrefix, AskedUpTo, NoPut, PutFailed};
+ghost use Rattle.r4k_top.specs.Clauses.{AskedPrefix, AskedUpTo, WriteFailed, PutFailed};
 
 pub mod commands;
 pub mod files;
@@ -49,17 +49,17 @@ pub fn workstation<F: Shelf, K: Sink>(
         ⊎ PutRose (out_name (command_of words.now)) (F.put_faults shelf.old) (F.put_faults shelf.new))
         (EndsWith (command_of words.now) (F.held shelf.old)) result }
 
-    // Done comes after all that is made was written and put. WriteFault comes after a prefix of the text: no put was
-    // tried, or the put failed after the whole text.
+    // Done comes after all that is made was written and put. WriteFault comes after a prefix of the text: a write failed,
+    // and no put was tried; or the put failed, after the whole text.
     ensures done { result ≡ Status.Done →
         ComesTo (command_of words.now) (F.held shelf.old) (Written (K.written out.old) (K.written out.new)) }
     ensures done_put { result ≡ Status.Done →
         ComesTo (command_of words.now) (F.held shelf.old) (FilePut (F.held shelf.old) (F.held shelf.new)) }
-    ensures write_fault { result ≡ Status.WriteFault →
+    ensures written_prefix { result ≡ Status.WriteFault →
         ComesTo (command_of words.now) (F.held shelf.old) (WrittenPrefix (K.written out.old) (K.written out.new)) }
-    ensures put_fault { result ≡ Status.WriteFault →
-        NoPut (command_of words.now) (F.asked shelf.old) (F.asked shelf.new) (F.held shelf.old) (F.held shelf.new)
-        (F.put_faults shelf.old) (F.put_faults shelf.new)
+    ensures write_fault { result ≡ Status.WriteFault →
+        WriteFailed (command_of words.now) (K.faults out.old) (K.faults out.new) (F.asked shelf.old) (F.asked shelf.new)
+        (F.held shelf.old) (F.held shelf.new) (F.put_faults shelf.old) (F.put_faults shelf.new)
         ⊎ PutFailed (command_of words.now) (F.held shelf.old) (K.written out.old) (K.written out.new)
         (F.asked shelf.old) (F.asked shelf.new) (F.put_faults shelf.old) (F.put_faults shelf.new) }
 

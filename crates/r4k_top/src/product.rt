@@ -70,7 +70,8 @@ pub fn deliver<F: Shelf, K: Sink>(product: &Product<'_>, shelf: &mut F, out: &mu
         AppendedPrefix (K.written out.old) (K.written out.new) (made_shown product.now).text }
     ensures cause { result ≡ Status.WriteFault → Rose (K.faults out.old) (K.faults out.new)
         ⊎ PutRose (file_name (made_shown product.now).file) (F.put_faults shelf.old) (F.put_faults shelf.new) }
-    ensures stops { result ≡ Status.WriteFault → (shelf.new ≡ shelf.old)
+    ensures stops { result ≡ Status.WriteFault →
+        Rose (K.faults out.old) (K.faults out.new) × (shelf.new ≡ shelf.old)
         ⊎ PutAfter (made_shown product.now) (K.written out.old) (K.written out.new)
         (F.asked shelf.old) (F.asked shelf.new) (F.put_faults shelf.old) (F.put_faults shelf.new) }
 
