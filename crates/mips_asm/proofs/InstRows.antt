@@ -1,14 +1,21 @@
 -- The row of an instruction stays while its operands are read, and `beq` takes any number of 16 bits.
-use Rattle.std.proofs.Common.{◌≡◌, ◌<◌, ◌^◌, ℕ, List, [], ◌∷◌, refl, ◌∙◌, arith}
+use Rattle.std.proofs.Common.{◌≡◌, ◌<◌, ◌≤◌, ◌^◌, ℕ, List, [], ◌∷◌, length, slice_index_or, refl, ap, sym, ◌∙◌, subst, arith}
 use Rattle.mips3_table.specs.declared.instruction.Inst.{Inst}
-use Rattle.mips3_table.specs.Instructions.{IsInst}
+use Rattle.mips3_table.specs.declared.operand_forms.Form.{Form}
+use Rattle.mips3_table.specs.declared.operand_forms.Form.TheVariants as form
+use Rattle.mips3_table.specs.declared.operand_forms.Widths.{Widths}
+use Rattle.mips3_table.specs.Operands.{widths_of}
+use Rattle.mips3_table.specs.Instructions.{IsInst, FitsWidths, widths_at}
 use Rattle.mips3_table.specs.Rows.{rows, row_at}
 use Rattle.mips_text.specs.declared.token.Token.{Token}
+use Rattle.mips_text.specs.declared.operand.Operand.{Operand}
+use Rattle.mips_text.specs.declared.operand.Operand.TheVariants.{BranchTarget, JumpTarget}
 use Rattle.mips_text.specs.declared.operand.Field.{Field}
 use Rattle.mips_text.specs.declared.operand.Field.TheVariants.{Rs, Rt, Rd, Sa, Imm}
 use Rattle.mips_text.specs.declared.operand.Expected.{Expected}
 use Rattle.mips_text.specs.declared.operand.Expected.TheVariants.{ARegister, ACp0Register, ANumber, ATarget, ALabel, AText, AMark}
-use Rattle.mips_text.specs.Forms.{token_text}
+use Rattle.mips_text.specs.Forms.{operands_of, token_text}
+use Rattle.mips_asm.specs.Shown.{IsSoundBy}
 use Rattle.mips_text.specs.Line.{with_field, with_operand, with_operands, bare, beq_row}
 
 field_row : (field : Field) (value : ℕ) (inst : Inst) → (with_field field value inst).row ≡ inst.row
@@ -33,6 +40,35 @@ operands_row line (one ∷ expected) [] inst = refl
 operands_row line (one ∷ expected) (token ∷ tokens) inst =
     operands_row line expected tokens (with_operand one (token_text line token) inst) ∙ operand_row one (token_text line token) inst
 
-pub beq_is_sound : (number : ℕ) → number < 2 ^ 16 → IsInst (record (bare beq_row) { imm = number })
+-- an instruction whose fields have the widths of its row's form is one of the table, and is so with another number
+is_inst : (w : Widths) (inst : Inst) → inst.row < 129 → w ≡ widths_at inst.row → FitsWidths w inst → IsInst inst
+is_inst w inst row same fits = record { row = row; fields = subst (λ v. FitsWidths v inst) same fits }
+
+with_number : (w : Widths) (inst : Inst) (number : ℕ) → inst.row < 129 → w ≡ widths_at inst.row → FitsWidths w inst → number < 2 ^ w.number → IsInst (record inst { imm = number })
+with_number w inst number row same fits lt = is_inst w (record inst { imm = number }) row same (record { rs = fits.rs; rt = fits.rt; rd = fits.rd; sa = fits.sa; imm = lt })
+
+-- so it can be coded with the operands of the form
+sound_by_form : (one : Form) (inst : Inst) → inst.row < 129 → widths_of one ≡ widths_at inst.row → FitsWidths (widths_of one) inst → IsSoundBy (operands_of one) inst
+sound_by_form form.Target inst row same fits = (λ number lt. with_number (widths_of form.Target) inst number row same fits lt, is_inst (widths_of form.Target) inst row same fits)
+sound_by_form form.CompareBranch inst row same fits = (λ number lt. with_number (widths_of form.CompareBranch) inst number row same fits lt, is_inst (widths_of form.CompareBranch) inst row same fits)
+sound_by_form form.ZeroBranch inst row same fits = (λ number lt. with_number (widths_of form.ZeroBranch) inst number row same fits lt, is_inst (widths_of form.ZeroBranch) inst row same fits)
+sound_by_form one inst row same fits = is_inst (widths_of one) inst row same fits
+
+pub sound_by_operands : (row : ℕ) (inst : Inst) → row < 129 → inst.row ≡ row → FitsWidths (widths_at row) inst → IsSoundBy (operands_of (row_at row).form) inst
+sound_by_operands row inst lt same fits = sound_by_form (row_at row).form inst (omega arith) (ap widths_at (sym same)) fits
+
+-- by the first operand
+pub sound_branch : (operands : List Operand) (none : Operand) (inst : Inst) → slice_index_or operands 0 none ≡ BranchTarget → 1 ≤ length operands → IsSoundBy operands inst → (number : ℕ) → number < 2 ^ 16 → IsInst (record inst { imm = number })
+sound_branch [] none inst is some sound = absurd (omega arith)
+sound_branch (one ∷ more) none inst is some sound = (subst (λ operand. IsSoundBy (operand ∷ more) inst) is sound).0
+
+pub sound_jump : (operands : List Operand) (none : Operand) (inst : Inst) → slice_index_or operands 0 none ≡ JumpTarget → 1 ≤ length operands → IsSoundBy operands inst → (number : ℕ) → number < 2 ^ 26 → IsInst (record inst { imm = number })
+sound_jump [] none inst is some sound = absurd (omega arith)
+sound_jump (one ∷ more) none inst is some sound = (subst (λ operand. IsSoundBy (operand ∷ more) inst) is sound).0
+
+pub beq_is_sound : IsSoundBy (BranchTarget ∷ []) (bare beq_row)
 unfolding row_at rows
-beq_is_sound number lt = record { row = omega arith; fields = record { rs = omega arith; rt = omega arith; rd = omega arith; sa = omega arith; imm = lt } }
+beq_is_sound = (
+  λ number lt. record { row = omega arith; fields = record { rs = omega arith; rt = omega arith; rd = omega arith; sa = omega arith; imm = lt } },
+  record { row = omega arith; fields = record { rs = omega arith; rt = omega arith; rd = omega arith; sa = omega arith; imm = omega arith } },
+)

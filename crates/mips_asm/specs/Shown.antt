@@ -1,7 +1,12 @@
 -- What the values of the code stand for in the definitions.
-use Rattle.std.specs.Prelude.{◌≡◌, ◌<◌, ◌≤◌, ◌^◌, ◌++◌, ℕ, List, Option, Some, None, Result, Ok, Err, IfSome}
+use Rattle.std.specs.Prelude.{◌≡◌, ◌<◌, ◌≤◌, ◌^◌, ◌++◌, ℕ, List, [], ◌∷◌, Option, Some, None, Result, Ok, Err, IfSome, unwrap_or}
+use Rattle.std.specs.Borrow.{Bor}
 use Rattle.flat_ram.specs.Bytes.{bytes_of}
+use Rattle.mips3_table.specs.declared.instruction.Inst.{Inst}
 use Rattle.mips3_table.specs.Instructions.{IsInst}
+use Rattle.mips_text.specs.declared.operand.Operand.{Operand}
+use Rattle.mips_text.specs.declared.operand.Operand.TheVariants.{BranchTarget, JumpTarget}
+use Rattle.mips_text.specs.Values.{bytes_of_text}
 use Rattle.mips_text.specs.declared.reason.AsmWhy.{AsmWhy}
 use Rattle.mips_text.specs.declared.reason.AsmWhy.TheVariants as why
 use Rattle.mips_asm.specs.declared.coding.Stop.{Stop}
@@ -32,6 +37,13 @@ IsSound (LoadNumber register number) = register < 32
 IsSound (LoadLabel register name) = register < 32
 IsSound (Aligned (Some power)) = power ≤ 12
 IsSound item = Unit {0}
+
+-- an instruction can be coded with the target that one of these operands is, and without one
+abbrev pub IsSoundBy : List Operand → Inst → Type 0
+IsSoundBy [] inst = IsInst inst
+IsSoundBy (BranchTarget ∷ more) inst = ((number : ℕ) → number < 2 ^ 16 → IsInst (record inst { imm = number })) × IsSoundBy more inst
+IsSoundBy (JumpTarget ∷ more) inst = ((number : ℕ) → number < 2 ^ 26 → IsInst (record inst { imm = number })) × IsSoundBy more inst
+IsSoundBy (one ∷ more) inst = IsSoundBy more inst
 
 -- a line's statement can be coded
 abbrev pub IsSoundLine : Line → Type 0

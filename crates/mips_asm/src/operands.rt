@@ -9,15 +9,15 @@ ghost use Rattle.mips_text.specs.Forms as forms;
 ghost use Rattle.mips_text.specs.Tokens.{IsWithin};
 ghost use Rattle.mips_text.specs.Values.{number_of as number_law};
 ghost use Rattle.mips_text.specs.Line as law;
-ghost use Rattle.mips_asm.specs.Shown.{IsSound};
+ghost use Rattle.mips_asm.specs.Shown.{IsSound, IsSoundBy};
 ghost use Rattle.mips_asm.specs.StatementsOf.{IsStatement};
 
 use crate::expected::expected_of;
 use crate::matching::text_of;
 use arrayvec::ArrayVec;
 use mips_text::{
-    Bytes, Expected, Field, Item, Name, Statement, Target, Token, TokenKind, Words,
-    cp0_register_of, number_of, register_of,
+    Bytes, Expected, Field, Item, Name, Operand, Statement, Target, Token, TokenKind, Words,
+    cp0_register_of, number_of, operands_of, register_of,
 };
 use mips3_table::{Form, Inst, form_of, widths_of};
 
@@ -183,16 +183,21 @@ fn target_of<'a>(kind: TokenKind, text: &'a [u8]) -> Target<'a>
     Target::Address(natural_value(text))
 }
 
-/// The target at an index.
-fn target_at<'a>(line: &'a [u8], list: &[Token], at: usize) -> Target<'a>
+/// The target that tokens give, if one is expected.
+fn target_in<'a>(line: &'a [u8], expected: &[Expected], list: &[Token]) -> Option<Target<'a>>
     requires { All (IsWithin (length line.now)) list.now }
-    ensures { result ≡ law.target_at line.now list.now at }
+    ensures { result ≡ law.target_in line.now expected.now list.now }
 {
-    if at < list.len() {
-        target_of(list[at].kind, text_of(line, &list[at]))
-    } else {
-        Target::Address(0)
+    let [one, expected @ ..] = expected else {
+        return None;
+    };
+    let [token, list @ ..] = list else {
+        return None;
+    };
+    if matches!(one, Expected::ATarget) {
+        return Some(target_of(token.kind, text_of(line, token)));
     }
+    target_in(line, expected, list)
 }
 
 /// Appends the numbers among these tokens, as 32 bits each.
@@ -237,21 +242,39 @@ fn alignment_of(text: &[u8]) -> Option<u8>
     }
 }
 
-/// A statement of an instruction, by its form.
-fn item_by_form<'a>(line: &'a [u8], form: Form, inst: Inst, operands: &[Token]) -> Item<'a>
-    requires within { All (IsWithin (length line.now)) operands.now }
-    requires row { inst.row < 129 }
-    requires form { widths_law form ≡ widths_at inst.row }
-    requires sound { FitsWidths (widths_law form) inst }
-    ensures value { result ≡ law.item_by_form line.now form inst operands.now }
+/// An instruction, which goes to the target where one of its operands is a target.
+fn item_by<'a>(operands: &[Operand], inst: Inst, target: Option<Target<'a>>) -> Item<'a>
+    requires { IsSoundBy operands.now inst }
+    ensures value { result ≡ law.item_by operands.now inst target.entry }
     ensures sound { IsSound result }
 {
-    match form {
-        Form::Target => Item::JumpTo(inst, target_at(line, operands, 0)),
-        Form::CompareBranch => Item::BranchTo(inst, target_at(line, operands, 4)),
-        Form::ZeroBranch => Item::BranchTo(inst, target_at(line, operands, 2)),
-        _ => Item::Plain(inst),
+    let [operand, more @ ..] = operands else {
+        return Item::Plain(inst);
+    };
+    match (operand, target) {
+        (Operand::BranchTarget, Some(target)) => Item::BranchTo(inst, target),
+        (Operand::JumpTarget, Some(target)) => Item::JumpTo(inst, target),
+        (_, target) => item_by(more, inst, target),
     }
+}
+
+/// The instruction of a row with its operands.
+#[tactic(auto, using(crate::proofs::InstRows::sound_by_operands))]
+fn item_of_row<'a>(line: &'a [u8], row: u8, operands: &[Token]) -> Item<'a>
+    requires few { length operands.now < 64 }
+    requires row { row < 129 }
+    requires within { All (IsWithin (length line.now)) operands.now }
+    ensures value { result ≡ law.item_of_row line.now row operands.now }
+    ensures sound { IsSound result }
+{
+    let statement = Statement::Instruction(row);
+    let expected = expected_of(statement, operands.len());
+    let target = target_in(line, &expected, operands);
+    item_by(
+        operands_of(form_of(row)),
+        inst_of(line, row, statement, operands),
+        target,
+    )
 }
 
 /// What a statement puts, by operands that have its shape.
@@ -264,10 +287,7 @@ pub fn item_of<'a>(line: &'a [u8], statement: Statement, operands: &[Token]) -> 
     ensures sound { IsSound result }
 {
     match statement {
-        Statement::Instruction(row) => {
-            let inst = inst_of(line, row, statement, operands);
-            item_by_form(line, form_of(row), inst, operands)
-        }
+        Statement::Instruction(row) => item_of_row(line, row, operands),
         Statement::Li => {
             let register = register_value(text_at(line, operands, 0));
             Item::LoadNumber(
@@ -285,7 +305,11 @@ pub fn item_of<'a>(line: &'a [u8], statement: Statement, operands: &[Token]) -> 
             words.push(0);
             Item::Words(Words::new(words))
         }
-        Statement::Branch => Item::BranchTo(bare(BEQ), target_at(line, operands, 0)),
+        Statement::Branch => item_by(
+            &[Operand::BranchTarget],
+            bare(BEQ),
+            target_in(line, &[Expected::ATarget], operands),
+        ),
         Statement::Org => Item::Origin(natural_value(text_at(line, operands, 0))),
         Statement::Word => {
             let mut words = ArrayVec::new();

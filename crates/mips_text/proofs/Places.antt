@@ -2,8 +2,6 @@
 -- line has. What is read from such a line depends on the kinds and the texts of its tokens alone.
 use Rattle.std.proofs.Common.{◌≡◌, ℕ, zero, suc, Bool, true, false, not, ◌&&◌, ◌||◌, if◌then◌else◌, List, [], ◌∷◌, length, slice_get, Option, Some, None, refl, ap, sym, ◌∙◌}
 use Rattle.mips3_table.specs.declared.instruction.Inst.{Inst}
-use Rattle.mips3_table.specs.declared.operand_forms.Form.{Form}
-use Rattle.mips3_table.specs.declared.operand_forms.Form.TheVariants as form
 use Rattle.mips3_table.specs.Rows.{row_at}
 use Rattle.mips3_table.specs.Instructions.{widths_at}
 use Rattle.mips_text.specs.declared.reason.AsmWhy.TheVariants as why
@@ -18,7 +16,7 @@ use Rattle.mips_text.specs.declared.item.Target.{Target}
 use Rattle.mips_text.specs.declared.item.Target.TheVariants.{Address}
 use Rattle.mips_text.specs.declared.item.Item.{Item}
 use Rattle.mips_text.specs.declared.item.Item.TheVariants.{Plain, BranchTo, JumpTo}
-use Rattle.mips_text.specs.Line.{Parts, Reading, Read, Refused, tokens_expected, some_unknown, all_agree, all_in_range, operands_fault, with_operand, with_operands, fitted, bare, target_of, target_at, item_by_form, item_of, is_colon, is_name, parts_of, statement_by_fault, statement_by_name, read_statement, read_cut}
+use Rattle.mips_text.specs.Line.{Parts, Reading, Read, Refused, tokens_expected, some_unknown, all_agree, all_in_range, operands_fault, with_operand, with_operands, fitted, bare, target_of, target_or, target_in, item_by, item_of, is_colon, is_name, parts_of, statement_by_fault, statement_by_name, read_statement, read_cut}
 use Rattle.mips_text.proofs.Pieces.{Piece, piece, Spells}
 
 -- a place of a statement: what is expected there, and the token that stands there
@@ -112,45 +110,31 @@ with_spelled line (one ∷ places) (token ∷ tokens) inst spells =
     ap (λ t. with_operands line (expected_at places) tokens (with_operand one.expected t inst)) spells.1
     ∙ with_spelled line places tokens (with_operand one.expected one.text inst) spells.2
 
--- the target that the place at an index gives
-abbrev pub target_found_in : Option Place → Target
-target_found_in (Some one) = target_of one.kind one.text
-target_found_in None = Address 0
+-- the target that the places give, if one is expected
+abbrev pub target_placed : List Place → Option Target
+target_placed [] = None
+target_placed (one ∷ places) = target_or one.expected one.kind one.text (target_placed places)
 
-abbrev pub target_in : List Place → ℕ → Target
-target_in places at = target_found_in (slice_get places at)
-
-target_spelled : (line : List ℕ) (places : List Place) (tokens : List Token) (at : ℕ) → Spells line tokens (pieces_at places) → target_at line tokens at ≡ target_in places at
-target_spelled line [] [] at spells = refl
-target_spelled line [] (token ∷ tokens) at spells = absurd spells
-target_spelled line (one ∷ places) [] at spells = absurd spells
-target_spelled line (one ∷ places) (token ∷ tokens) zero spells = ap (λ k. target_of k (token_text line token)) spells.0 ∙ ap (target_of one.kind) spells.1
-target_spelled line (one ∷ places) (token ∷ tokens) (suc at) spells = target_spelled line places tokens at spells.2
-
--- what a statement of a form puts, by its places
-abbrev pub item_by : Form → Inst → List Place → Item
-item_by form.Target inst places = JumpTo inst (target_in places 0)
-item_by form.CompareBranch inst places = BranchTo inst (target_in places 4)
-item_by form.ZeroBranch inst places = BranchTo inst (target_in places 2)
-item_by other inst places = Plain inst
-
-item_spelled : (line : List ℕ) (one : Form) (inst : Inst) (places : List Place) (tokens : List Token) → Spells line tokens (pieces_at places) → item_by_form line one inst tokens ≡ item_by one inst places
-item_spelled line form.Target inst places tokens spells = ap (JumpTo inst) (target_spelled line places tokens 0 spells)
-item_spelled line form.CompareBranch inst places tokens spells = ap (BranchTo inst) (target_spelled line places tokens 4 spells)
-item_spelled line form.ZeroBranch inst places tokens spells = ap (BranchTo inst) (target_spelled line places tokens 2 spells)
-item_spelled line _ inst places tokens spells = refl
+target_spelled : (line : List ℕ) (places : List Place) (tokens : List Token) → Spells line tokens (pieces_at places) → target_in line (expected_at places) tokens ≡ target_placed places
+target_spelled line [] tokens spells = refl
+target_spelled line (one ∷ places) [] spells = absurd spells
+target_spelled line (one ∷ places) (token ∷ tokens) spells =
+    ap (λ k. target_or one.expected k (token_text line token) (target_in line (expected_at places) tokens)) spells.0
+    ∙ ap (λ t. target_or one.expected one.kind t (target_in line (expected_at places) tokens)) spells.1
+    ∙ ap (target_or one.expected one.kind one.text) (target_spelled line places tokens spells.2)
 
 -- what a statement of a row puts, by its places
-abbrev pub item_of_row : ℕ → List Place → Item
-item_of_row row places = item_by (row_at row).form (fitted (widths_at row) (with_places places (bare row))) places
+abbrev pub item_placed : ℕ → List Place → Item
+item_placed row places = item_by (operands_of (row_at row).form) (fitted (widths_at row) (with_places places (bare row))) (target_placed places)
 
 pub item_of_spelled : (line : List ℕ) (row : ℕ) (places : List Place) (tokens : List Token) → Spells line tokens (pieces_at places) → expected_at places ≡ separated (operands_of (row_at row).form) →
-    item_of line (Instruction row) tokens ≡ item_of_row row places
+    item_of line (Instruction row) tokens ≡ item_placed row places
 unfolding item_of
 item_of_spelled line row places tokens spells expected =
-    ap (λ e. item_by_form line (row_at row).form (fitted (widths_at row) (with_operands line e tokens (bare row))) tokens) (sym expected)
-    ∙ ap (λ i. item_by_form line (row_at row).form (fitted (widths_at row) i) tokens) (with_spelled line places tokens (bare row) spells)
-    ∙ item_spelled line (row_at row).form (fitted (widths_at row) (with_places places (bare row))) places tokens spells
+    let operands = operands_of (row_at row).form in
+    ap (λ e. item_by operands (fitted (widths_at row) (with_operands line e tokens (bare row))) (target_in line e tokens)) (sym expected)
+    ∙ ap (λ i. item_by operands (fitted (widths_at row) i) (target_in line (expected_at places) tokens)) (with_spelled line places tokens (bare row) spells)
+    ∙ ap (item_by operands (fitted (widths_at row) (with_places places (bare row)))) (target_spelled line places tokens spells)
 
 -- a line that says this alone
 abbrev pub says : Item → Reading

@@ -21,12 +21,12 @@ use Rattle.mips_text.specs.Printed.{AllFit, by_form, text_of}
 use Rattle.mips_text.proofs.Reached.{distance_found, number_found}
 use Rattle.mips_text.proofs.FormOperands.{fit_form, few_operands}
 use Rattle.mips_text.specs.declared.item.Item.TheVariants.{Words}
-use Rattle.mips_text.specs.Line.{read_line, read_statement, operands_fault, item_of, read_cut, parts_of, fitted, bare, natural, number_value}
+use Rattle.mips_text.specs.Line.{read_line, read_statement, operands_fault, item_of, read_cut, parts_of, fitted, bare, natural, number_value, item_by}
 use Rattle.mips_text.specs.Coded.{word_of, word_with, branch_to, jump_to, coded_at}
 use Rattle.mips_text.specs.ReadBack.{ReadsAs}
 use Rattle.mips_text.proofs.Pieces.{piece, row_piece}
 use Rattle.mips_text.proofs.ReadValues.{name_read}
-use Rattle.mips_text.proofs.Places.{item_by, item_of_row, item_of_spelled, cut_spelled}
+use Rattle.mips_text.proofs.Places.{target_placed, item_placed, item_of_spelled, cut_spelled}
 use Rattle.mips_text.proofs.OperandPlaces.{places_of, expected_places, colon_places, cut_line}
 use Rattle.mips_text.proofs.OperandValues.{agree_places, all_taken, with_operands_back, target_back}
 
@@ -83,7 +83,7 @@ branch_back read inst at place target same lt here is =
 
 -- what the operands of a form put is the word
 word_back : (form : Form) (inst : Inst) (at : ℕ) (labels : List (List ℕ × ℕ)) → FitsWidths (widths_of form) inst → at < 2 ^ 32 →
-    coded_at labels at (item_by form (read_by form inst) (places_of inst at (operands_of form))) ≡ word_of inst
+    coded_at labels at (item_by (operands_of form) (read_by form inst) (target_placed (places_of inst at (operands_of form)))) ≡ word_of inst
 unfolding coded_at
 word_back Target inst at labels fits within =
     let here : at % 2 ^ 32 ≡ at = omega arith in
@@ -112,13 +112,13 @@ form_read inst at is within =
     let expected = expected_places inst at operands in
     let cut = cut_line (piece Name name) inst at operands (row_piece inst.row is.row) fit (few_operands form) in
     record {
-      item = item_of_row inst.row places;
+      item = item_placed inst.row places;
       is_read =
           ap (λ r. read_cut line r (parts_of line (tokens_of line).tokens)) cut.0
-          ∙ cut_spelled line name (Instruction inst.row) places (item_of_row inst.row places) (tokens_of line).tokens cut.1 (name_read inst.row is.row) (sym expected) (agree_places inst at operands fit)
+          ∙ cut_spelled line name (Instruction inst.row) places (item_placed inst.row places) (tokens_of line).tokens cut.1 (name_read inst.row is.row) (sym expected) (agree_places inst at operands fit)
           (colon_places inst at operands) (λ tokens spells. item_of_spelled line inst.row places tokens spells expected);
       is_word = λ labels.
-          ap (λ read. coded_at labels at (item_by form (fitted (widths_of form) read) places)) (with_operands_back inst at operands (bare inst.row) fit)
+          ap (λ read. coded_at labels at (item_by (operands_of form) (fitted (widths_of form) read) (target_placed places))) (with_operands_back inst at operands (bare inst.row) fit)
           ∙ word_back form inst at labels is.fields within;
     }
 

@@ -5,8 +5,6 @@
 -- directives of the MIPS assembler.
 use Rattle.std.specs.Prelude.{ℕ, ℤ, pos, negsuc, zero, suc, ◌-◌, ◌/◌, ◌%◌, ◌^◌, ◌==◌, nat_lt, nat_le, Bool, true, false, not, ◌&&◌, ◌||◌, if◌then◌else◌, List, [], ◌∷◌, length, slice_index, slice_get, Option, Some, None, unwrap_or}
 use Rattle.mips3_table.specs.declared.instruction.Inst.{Inst}
-use Rattle.mips3_table.specs.declared.operand_forms.Form.{Form}
-use Rattle.mips3_table.specs.declared.operand_forms.Form.TheVariants as form
 use Rattle.mips3_table.specs.declared.operand_forms.Widths.{Widths}
 use Rattle.mips3_table.specs.Rows.{row_at}
 use Rattle.mips3_table.specs.Instructions.{widths_at}
@@ -27,10 +25,12 @@ use Rattle.mips_text.specs.declared.operand.Field.{Field}
 use Rattle.mips_text.specs.declared.operand.Field.TheVariants.{Rs, Rt, Rd, Sa, Imm}
 use Rattle.mips_text.specs.declared.operand.Range.{Range}
 use Rattle.mips_text.specs.declared.operand.Expected.{Expected}
-use Rattle.mips_text.specs.declared.operand.Expected.TheVariants.{ARegister, ACp0Register, ANumber, AMark}
+use Rattle.mips_text.specs.declared.operand.Expected.TheVariants.{ARegister, ACp0Register, ANumber, ATarget, AMark}
 use Rattle.mips_text.specs.declared.statement.Statement.{Statement}
 use Rattle.mips_text.specs.declared.statement.Statement.TheVariants.{Instruction, Li, La, Move, Nop, Branch, Org, Word, Byte, Space, Align, Ascii}
-use Rattle.mips_text.specs.Forms.{Shape, Tokens, Numbers, shape_of, statement_named, token_text, names_no_register, has_kind, has_range}
+use Rattle.mips_text.specs.declared.operand.Operand.{Operand}
+use Rattle.mips_text.specs.declared.operand.Operand.TheVariants.{BranchTarget, JumpTarget}
+use Rattle.mips_text.specs.Forms.{Shape, Tokens, Numbers, operands_of, separated, shape_of, statement_named, token_text, names_no_register, has_kind, has_range}
 
 -- A line as it is read.
 pub data Reading : Type 0 where
@@ -158,7 +158,7 @@ abbrev pub inst_of : List ℕ → ℕ → Statement → List Token → Inst
 inst_of line row statement tokens =
     fitted (widths_at row) (with_operands line (tokens_expected (shape_of statement) (length tokens)) tokens (bare row))
 
--- the text of the token at an index, and its target
+-- the text of a token, if there is one
 abbrev pub text_found : List ℕ → Option Token → List ℕ
 text_found line (Some token) = token_text line token
 text_found line None = []
@@ -172,14 +172,17 @@ abbrev pub target_of : TokenKind → List ℕ → Target
 target_of Name text = Label text
 target_of kind text = Address (natural (number_value text))
 
--- the target of a token, if there is one
-abbrev pub target_found : List ℕ → Option Token → Target
-target_found line (Some token) = target_of token.kind (token_text line token)
-target_found line None = Address 0
+-- the target that a token gives where one is expected, else the one that later tokens give
+abbrev pub target_or : Expected → TokenKind → List ℕ → Option Target → Option Target
+target_or ATarget kind text later = Some (target_of kind text)
+target_or expected kind text later = later
 
--- the target of the token at an index
-abbrev pub target_at : List ℕ → List Token → ℕ → Target
-target_at line tokens at = target_found line (slice_get tokens at)
+-- the target that tokens give, if one is expected
+abbrev pub target_in : List ℕ → List Expected → List Token → Option Target
+target_in line [] tokens = None
+target_in line (one ∷ expected) [] = None
+target_in line (one ∷ expected) (token ∷ tokens) =
+    target_or one token.kind (token_text line token) (target_in line expected tokens)
 
 -- a number before others, where the token is one
 abbrev pub with_number : ℕ → TokenKind → List ℕ → List ℕ → List ℕ
@@ -196,21 +199,27 @@ abbrev pub alignment_of : ℤ → Option ℕ
 alignment_of (pos n) = if nat_le n 12 then Some n else None
 alignment_of (negsuc n) = None
 
--- an instruction, by its form
-abbrev pub item_by_form : List ℕ → Form → Inst → List Token → Item
-item_by_form line form.Target inst tokens = JumpTo inst (target_at line tokens 0)
-item_by_form line form.CompareBranch inst tokens = BranchTo inst (target_at line tokens 4)
-item_by_form line form.ZeroBranch inst tokens = BranchTo inst (target_at line tokens 2)
-item_by_form line other inst tokens = Plain inst
+-- an instruction, which goes to the target where one of its operands is a target
+abbrev pub item_by : List Operand → Inst → Option Target → Item
+item_by [] inst target = Plain inst
+item_by (BranchTarget ∷ more) inst (Some target) = BranchTo inst target
+item_by (JumpTarget ∷ more) inst (Some target) = JumpTo inst target
+item_by (one ∷ more) inst target = item_by more inst target
+
+-- the instruction of a row with its operands
+abbrev pub item_of_row : List ℕ → ℕ → List Token → Item
+item_of_row line row tokens =
+    item_by (operands_of (row_at row).form) (inst_of line row (Instruction row) tokens)
+    (target_in line (separated (operands_of (row_at row).form)) tokens)
 
 -- What a statement puts, by operands that have its shape.
 unfoldable pub item_of : List ℕ → Statement → List Token → Item
-item_of line (Instruction row) tokens = item_by_form line (row_at row).form (inst_of line row (Instruction row) tokens) tokens
+item_of line (Instruction row) tokens = item_of_row line row tokens
 item_of line Li tokens = LoadNumber (register_value (text_at line tokens 0)) (in_bits 32 (number_value (text_at line tokens 2)))
 item_of line La tokens = LoadLabel (register_value (text_at line tokens 0)) (text_at line tokens 2)
 item_of line Move tokens = Plain (inst_of line or_row Move tokens)
 item_of line Nop tokens = Words (0 ∷ [])
-item_of line Branch tokens = BranchTo (bare beq_row) (target_at line tokens 0)
+item_of line Branch tokens = item_by (BranchTarget ∷ []) (bare beq_row) (target_in line (ATarget ∷ []) tokens)
 item_of line Org tokens = Origin (natural (number_value (text_at line tokens 0)))
 item_of line Word tokens = Words (numbers_of 32 line tokens)
 item_of line Byte tokens = Bytes (numbers_of 8 line tokens)

