@@ -1,7 +1,8 @@
 //! The program: the words, the real shelf and sink, the top call, and its status.
 //!
-//! `file_shelf` and `stream_sink` are the trusted edge: they tell nothing of content, and each raises its count
-//! at each error. Everything else is `r4k_top::workstation`.
+//! `file_shelf` and `stream_sink` are the trusted edge: they tell nothing of content, and each raises its count at each
+//! failure. `streams` has their loops over readers and writers, and `placing` the way in which a file is put. Everything
+//! else is `r4k_top`: `workstation` does what the words say, and `report_status` tells how it ended.
 #![tactic(auto)]
 
 mod file_shelf;
@@ -10,7 +11,7 @@ mod stream_sink;
 mod streams;
 
 use file_shelf::FileShelf;
-use r4k_top::{Status, status_number, workstation, write_status};
+use r4k_top::{Status, report_status, workstation};
 use std::alloc::{AllocError, Global};
 use std::process::ExitCode;
 use std::{env, io};
@@ -46,10 +47,6 @@ fn run(rt: &HostRuntime) -> Status {
 }
 
 fn main(rt: HostRuntime) -> ExitCode {
-    let status = run(&rt);
-    if status != Status::Done {
-        let mut complaints = StdSink::new(rt.stderr());
-        let _ = write_status(&status, &mut complaints);
-    }
-    ExitCode::from(status_number(&status))
+    let mut complaints = StdSink::new(rt.stderr());
+    ExitCode::from(report_status(&run(&rt), &mut complaints))
 }
