@@ -5,13 +5,15 @@
 //! same text as `stdin`: a case says in itself what must come, and a further case is a line and no code. An argument that
 //! is none, or a verb that there is not, is answered by a question mark.
 //!
-//! `arguments` reads the parts of a case; each other module has the verbs of one library.
+//! `arguments` reads the parts of a case; `operation_names` has the names of operations; each other module
+//! has the verbs of one library.
 #![tactic(auto)]
 
 mod arguments;
 mod coding;
 mod images;
 mod memory;
+mod operation_names;
 mod rows;
 mod words;
 

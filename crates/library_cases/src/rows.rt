@@ -1,7 +1,10 @@
 //! The instruction table: the verbs of mips3_table.
 
 use crate::arguments::{put_decimal, quoted, word_number_at};
-use mips3_table::{Class, Form, class_of, form_of, is_64_bit, name_of, row_named, row_of};
+use crate::operation_names::put_operation;
+use mips3_table::{
+    Class, Form, class_of, form_of, is_64_bit, name_of, operation_of, row_named, row_of,
+};
 use std::alloc::AllocError;
 
 /// Appends the answer of a verb, and says whether it is one of these.
@@ -14,6 +17,7 @@ pub fn put_answer(verb: &str, arguments: &str, out: &mut String) -> Result<bool,
         }
         "class_of" => out.push_str(class_name(arguments))?,
         "form_of" => out.push_str(form_of_name(arguments))?,
+        "operation_of" => put_operation_of(arguments, out)?,
         _ => return Ok(false),
     }
     Ok(true)
@@ -43,6 +47,13 @@ fn class_name(arguments: &str) -> &'static str {
             Class::Cop0Function => "Cop0Function",
         },
         None => "?",
+    }
+}
+
+fn put_operation_of(arguments: &str, out: &mut String) -> Result<(), AllocError> {
+    match row_named(quoted(arguments).as_bytes()) {
+        Some(row) => put_operation(operation_of(row), out),
+        None => out.push_str("none"),
     }
 }
 
