@@ -7,8 +7,8 @@ use Rattle.r4k_top.specs.declared.statuses.Status.TheVariants.{Done, Usage, Read
 use Rattle.r4k_top.specs.Command.{Command, out_name}
 use Rattle.r4k_top.specs.Wanted.{fetches_of, puts_to, calls_of}
 use Rattle.r4k_top.specs.Outcome.{Made, file_name, outcome_of}
-use Rattle.r4k_top.specs.Answers.{IsLate}
-use Rattle.r4k_top.specs.Clauses.{EndsWith, AskedPrefix, AskedUpTo, PutAfter, MadeOf, StoppedWith}
+use Rattle.r4k_top.specs.Clauses.{EndsWith, AskedPrefix, AskedUpTo}
+use Rattle.r4k_top.specs.Making.{IsLate, MadeOf, StoppedWith, PutAfter}
 
 -- WORDS THAT ARE NO COMMAND
 

@@ -12,8 +12,9 @@ use Rattle.r4k_top.specs.declared.statuses.Status.TheVariants as status
 use Rattle.r4k_top.specs.Command.{Command, out_name}
 use Rattle.r4k_top.specs.Wanted.{Refusal, Wanted, refusal_of, wanted_of, fetches_of}
 use Rattle.r4k_top.specs.Outcome.{file_name, Made, End, Makes, run_end, run_image, run_job, Outcome, after_fetch, outcome_over, outcome_of, job_of}
-use Rattle.r4k_top.specs.Answers.{refused_status, status_of, MayStop, IsRefusal}
-use Rattle.r4k_top.specs.Clauses.{OfFile, ComesTo, EndsWith, Accepted, RefusedAs, MadeOf, StoppedWith}
+use Rattle.r4k_top.specs.Answers.{status_of, IsRefusal}
+use Rattle.r4k_top.specs.Clauses.{OfFile, ComesTo, EndsWith}
+use Rattle.r4k_top.specs.Making.{refused_status, MayStop, RefusedAs, Accepted, MadeOf, StoppedWith}
 
 some_same : {A : Type 0} (a b : A) → Some a ≡ Some b → a ≡ b
 some_same a b e = cc

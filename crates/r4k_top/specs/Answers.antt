@@ -13,11 +13,6 @@ status_of_refusal (Broken fault) = status.BadImage fault.rule fault.offset
 status_of_refusal (Refused line reason) = status.BadSource line reason
 status_of_refusal (Stops tick part) = status.Unbuilt tick part
 
--- the status with which a file is refused, where it is
-abbrev pub refused_status : Option Refusal → Option Status
-refused_status None = None
-refused_status (Some refusal) = Some (status_of_refusal refusal)
-
 -- the status of an end
 abbrev pub status_of : End → Status
 status_of (Makes made) = status.Done
@@ -31,15 +26,6 @@ MayAnswer unread unwritten ends status.ReadFault = unread
 MayAnswer unread unwritten ends status.WriteFault = unwritten
 MayAnswer unread unwritten ends answer = ends answer
 
--- Which answers may come where a command makes nothing: of a refusal the fact holds.
-abbrev pub MayStop : Type 0 → (Status → Type 0) → Status → Type 0
-MayStop unread ends status.Done = ⊥
-MayStop unread ends status.Usage = ⊥
-MayStop unread ends status.WriteFault = ⊥
-MayStop unread ends status.Memory = Unit {0}
-MayStop unread ends status.ReadFault = unread
-MayStop unread ends answer = ends answer
-
 -- the answers that refuse what the words ask for
 abbrev pub IsRefusal : Status → Type 0
 IsRefusal status.Done = ⊥
@@ -47,12 +33,6 @@ IsRefusal status.ReadFault = ⊥
 IsRefusal status.WriteFault = ⊥
 IsRefusal status.Memory = ⊥
 IsRefusal answer = Unit {0}
-
--- the answers that come after something was made
-abbrev pub IsLate : Status → Type 0
-IsLate status.Done = Unit {0}
-IsLate status.WriteFault = Unit {0}
-IsLate answer = ⊥
 
 -- the answers that come before anything is written or put
 abbrev pub IsEarly : Status → Type 0

@@ -6,9 +6,9 @@ use Rattle.std.specs.FinMap.{get}
 use Rattle.r4_ports.specs.Told.{Files, Call, file_of, Appended, AppendedPrefix, PutInto, Rose}
 use Rattle.r4k_top.specs.declared.statuses.Status.{Status}
 use Rattle.r4k_top.specs.Command.{Command, out_name}
-use Rattle.r4k_top.specs.Wanted.{Wanted, refusal_of, fetches_of, puts_to, calls_of}
-use Rattle.r4k_top.specs.Outcome.{File, file_name, Made, End, Makes, Refuses, Outcome, outcome_of}
-use Rattle.r4k_top.specs.Answers.{status_of, refused_status, MayStop, IsRefusal}
+use Rattle.r4k_top.specs.Wanted.{fetches_of, calls_of}
+use Rattle.r4k_top.specs.Outcome.{File, Made, End, Makes, Refuses, Outcome, outcome_of}
+use Rattle.r4k_top.specs.Answers.{status_of}
 
 -- WHAT THE WORDS COME TO
 
@@ -89,34 +89,3 @@ pub record PutFailed (said : Option Command) (held : Option Files) (text_before 
   pub text : ComesTo said held (Written text_before text_now)
   pub calls : Appended asked_before asked (calls_of said)
   pub rose : PutRose (out_name said) before now
-
--- the put of what was made failed, after the whole text had been written
-pub record PutAfter (made : Made) (text_before text_now : Option (List ℕ))
-    (asked_before asked : Option (List Call)) (before now : ℕ) : Type 0 where
-  pub text : Appended text_before text_now made.text
-  pub calls : Appended asked_before asked (puts_to (file_name made.file))
-  pub rose : PutRose (file_name made.file) before now
-
--- WHAT A COMMAND MAKES, BEFORE ANYTHING IS WRITTEN OR PUT
-
--- a file is refused with this status
-abbrev pub RefusedAs : Option Files → Wanted → Status → Type 0
-RefusedAs held file status = OfFile held file.name (λ bytes. refused_status (refusal_of file bytes) ≡ Some status)
-
--- a file is not refused
-abbrev pub Accepted : Option Files → Wanted → Type 0
-Accepted held file = OfFile held file.name (λ bytes. refusal_of file bytes ≡ None)
-
--- all files were fetched, and this is made of them
-pub record MadeOf (said : Option Command) (held : Option Files) (before now : Option (List Call))
-    (made : Made) : Type 0 where
-  pub came : ComesTo said held (λ outcome. outcome.end ≡ Makes made)
-  pub named : file_name made.file ≡ out_name said
-  pub calls : Appended before now (fetches_of said)
-
--- nothing is made, and the answer says why; a refusal comes after the fetches up to the file that is refused
-pub record StoppedWith (said : Option Command) (held : Option Files) (before now : Option (List Call))
-    (unread : Type 0) (status : Status) : Type 0 where
-  pub answer : MayStop unread (EndsWith said held) status
-  pub calls : AskedPrefix before now (fetches_of said)
-  pub up_to : IsRefusal status → AskedUpTo said held before now

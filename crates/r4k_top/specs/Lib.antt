@@ -7,3 +7,4 @@ pub mod EndShown
 pub mod StatusText
 pub mod Answers
 pub mod Clauses
+pub mod Making

@@ -5,8 +5,8 @@ ghost use Rattle.std.specs.Prelude.{◌≡◌, ◌≤◌, ◌<◌, ◌^◌, ◌�
 ghost use Rattle.r4_ports.specs.Told.{Rose, Appended, fetch_of};
 ghost use Rattle.mips_asm.specs.Assembly as assembly;
 ghost use Rattle.r4k_top.specs.Wanted.{file_limit, an_image, a_source, line_refusal};
-ghost use Rattle.r4k_top.specs.Answers.{MayStop, refused_status};
-ghost use Rattle.r4k_top.specs.Clauses.{OfFile, Accepted, RefusedAs};
+ghost use Rattle.r4k_top.specs.Clauses.{OfFile};
+ghost use Rattle.r4k_top.specs.Making.{refused_status, MayStop, RefusedAs, Accepted};
 ghost use Rattle.r4k_top.specs.declared.statuses.Status.TheVariants.{TooLong};
 
 use crate::statuses::Status;

@@ -6,9 +6,9 @@ ghost use Rattle.r4_ports.specs.Told.{Rose};
 ghost use Rattle.r4k_top.specs.Command as law;
 ghost use Rattle.r4k_top.specs.CommandShown.{command_shown};
 ghost use Rattle.r4k_top.specs.Outcome.{Makes, Refuses, run_job};
-ghost use Rattle.r4k_top.specs.Answers.{status_of, MayStop};
-ghost use Rattle.r4k_top.specs.Clauses.{MadeOf, StoppedWith};
+ghost use Rattle.r4k_top.specs.Answers.{status_of};
 ghost use Rattle.r4k_top.specs.EndShown.{made_shown};
+ghost use Rattle.r4k_top.specs.Making.{MayStop, MadeOf, StoppedWith};
 
 use crate::commands::Command;
 use crate::files::{ImageFile, read_image_file, read_source};

@@ -4,9 +4,9 @@ ghost use Rattle.std.specs.Prelude.{◌≡◌, ◌⊎◌, OnOk, OnErr, IsNone};
 ghost use Rattle.r4_ports.specs.Told.{Appended, AppendedPrefix, HasCause, Rose};
 ghost use Rattle.r4k_top.specs.Wanted.{puts_to};
 ghost use Rattle.r4k_top.specs.Outcome.{file_name};
-ghost use Rattle.r4k_top.specs.Answers.{IsLate};
-ghost use Rattle.r4k_top.specs.Clauses.{HasPut, PutRose, PutAfter, OthersStay};
+ghost use Rattle.r4k_top.specs.Clauses.{HasPut, PutRose, OthersStay};
 ghost use Rattle.r4k_top.specs.EndShown.{made_shown};
+ghost use Rattle.r4k_top.specs.Making.{IsLate, PutAfter};
 
 use crate::files::ImageFile;
 use crate::statuses::Status;
