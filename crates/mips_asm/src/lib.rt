@@ -21,6 +21,7 @@ mod matching;
 mod operands;
 mod passes;
 mod printed;
+mod ranges;
 mod reading;
 mod sources;
 mod statements;
