@@ -11,7 +11,7 @@ use crate::names::{cp0_name, register_name};
 use r4_words::{read_dec, value_of_digit};
 
 /// Whether a text is this name.
-fn reads(text: &[u8], name: &str) -> bool
+pub fn reads(text: &[u8], name: &str) -> bool
     ensures { result ≡ bytes_eq text.now name.now }
 {
     text == name.as_bytes()
