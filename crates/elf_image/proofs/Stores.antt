@@ -1,8 +1,7 @@
 -- One segment: where it is stored, and what that does.
-use Rattle.std.proofs.Common.{◌≡◌, ◌==◌, ℕ, ◌+◌, ◌-◌, ◌≤◌, nat_le, Bool, true, false, ◌&&◌, not, List, [], ◌∷◌, ◌++◌, length, take, drop, refl, sym, ap, ◌∙◌, add-zero, length-append, subst, arith, if◌then◌else◌}
-use Rattle.std.proofs.lemmas.Bool.{eqb-true, leb-true, and_parts}
-use Rattle.std.proofs.lemmas.List.{take-append-drop, length-take}
-use Rattle.flat_ram.specs.Bytes.{bytes_at, put_bytes, zeros_of}
+use Rattle.std.proofs.Common.{◌≡◌, ℕ, ◌+◌, ◌≤◌, nat_le, Bool, true, false, ◌&&◌, not, List, length, refl, sym, ap, subst, if◌then◌else◌}
+use Rattle.std.proofs.lemmas.Bool.{leb-true, and_parts}
+use Rattle.flat_ram.specs.Bytes.{put_bytes}
 use Rattle.flat_ram.specs.Unmapped.{physical}
 use Rattle.elf_image.specs.declared.segments.Segment.{Segment}
 use Rattle.elf_image.specs.Header.{segment_at}

@@ -3,7 +3,7 @@
 -- Source: System V Application Binary Interface, Object Files: "ELF Header", "ELF Identification" and "Program
 -- Header", with the MIPS RISC Processor Supplement; the ranges are those of this machine, whose images lie in kseg0
 -- and kseg1 (MIPS R4000 Microprocessor User's Manual, Heinrich, 2nd edition).
-use Rattle.std.specs.Prelude.{◌≡◌, ℕ, ◌==◌, ◌+◌, ◌*◌, ◌%◌, ◌^◌, Bool, not, ◌&&◌, List, [], ◌∷◌, length, slice_index, nat_eq, nat_lt, nat_le, Option, Some, None, Result, MatchResult, if◌then◌else◌}
+use Rattle.std.specs.Prelude.{◌≡◌, ℕ, ◌==◌, ◌+◌, ◌*◌, ◌%◌, Bool, not, ◌&&◌, List, [], ◌∷◌, length, slice_index, nat_eq, nat_le, Option, Some, None, Result, MatchResult, if◌then◌else◌}
 use Rattle.std.specs.Option.{option_map}
 use Rattle.std.specs.List.{starts_with, find}
 use Rattle.flat_ram.specs.Map.{ram_size}

@@ -15,8 +15,6 @@ mod loading;
 mod reading;
 mod rules;
 mod segments;
-#[cfg(test)]
-mod tests;
 mod writing;
 
 pub use loading::load;

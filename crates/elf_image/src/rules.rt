@@ -21,7 +21,7 @@ pub enum ImageRule {
 }
 
 /// A broken rule, and the offset in the file at which it is broken.
-#[derive(Clone, Copy, PartialEq, Eq, Debug)]
+#[derive(Clone, Copy)]
 pub struct ImageFault {
     pub rule: ImageRule,
     pub offset: u32,

@@ -5,7 +5,7 @@ ghost use Rattle.elf_image.specs.Header as header;
 use flat_ram::word_at;
 
 /// A segment, as its program header names it: `p_type`, `p_offset`, `p_vaddr`, `p_filesz` and `p_memsz`.
-#[derive(Clone, Copy, PartialEq, Eq, Debug)]
+#[derive(Clone, Copy)]
 pub struct Segment {
     pub kind: u32,
     pub offset: u32,

@@ -17,14 +17,3 @@ pub fn word_at(bytes: &[u8], at: usize) -> u32
 {
     u32::from_be_bytes([bytes[at], bytes[at + 1], bytes[at + 2], bytes[at + 3]])
 }
-
-#[cfg(test)]
-mod tests {
-    use super::*;
-
-    #[test]
-    fn the_high_byte_comes_first(rt: HostRuntime) {
-        assert_eq!(rt; half_at(&[0, 1, 2, 3, 4], 1), 0x0102);
-        assert_eq!(rt; word_at(&[0, 0x80, 2, 3, 4], 1), 0x80020304);
-    }
-}

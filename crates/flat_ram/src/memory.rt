@@ -132,35 +132,3 @@ impl Ram {
         put_padded(&mut self.bytes, pa as usize, bytes, count as usize);
     }
 }
-
-#[cfg(test)]
-mod tests {
-    use super::*;
-    use std::test::Fail;
-
-    #[test]
-    fn words_stand_high_byte_first(rt: HostRuntime) -> Result<(), Fail> {
-        let mut ram = Ram::new(rt.alloc())?;
-        assert_eq!(rt; ram.size(), 8388608);
-        assert_eq!(rt; ram.word(0x7ffffc), 0);
-        ram.set_word(0x7ffffc, 0xa0010000);
-        for (pa, byte) in [
-            (0x7ffffb, 0),
-            (0x7ffffc, 0xa0),
-            (0x7ffffd, 1),
-            (0x7ffffe, 0),
-            (0x7fffff, 0),
-        ] {
-            assert_eq!(rt; ram.get(pa), byte);
-        }
-        ram.set_padded(0x7ffff8, &[1, 2, 3, 4, 5], 5);
-        assert_eq!(rt; ram.word(0x7ffffc), 0x05010000);
-        ram.set(0x7fffff, 9);
-        assert_eq!(rt; ram.word(0x7ffffc), 0x05010009);
-        ram.set_padded(0x7ffff9, &[], 2);
-        ram.set_padded(0x7ffffb, &[], 2);
-        let left: &[u8] = &[1, 0, 0, 0, 0, 1, 0, 9];
-        assert_eq!(rt; ram.bytes(0x7ffff8, 8), left);
-        Ok(())
-    }
-}

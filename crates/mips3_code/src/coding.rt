@@ -157,6 +157,3 @@ fn encode_cop0_function(inst: &Inst) -> u32
 {
     cop0_function_rows!(word_of_row, inst)
 }
-
-#[cfg(test)]
-mod tests;

@@ -6,7 +6,7 @@ ghost use Rattle.mips3_table.specs.Matching.{class_of as class_of_word};
 /// A class of rows. The rows of one class are told apart by one field of the word, whose value is the row's number
 /// in the class (MIPS R4000 Microprocessor User's Manual, 2nd edition, figure A-2, "R4000 Opcode Bit Encoding",
 /// has a table for each).
-#[derive(Clone, Copy, PartialEq, Eq, Debug)]
+#[derive(Clone, Copy)]
 pub enum Class {
     /// The number is the opcode, bits 31:26.
     Opcode,

@@ -1,7 +1,7 @@
 //! An instruction: a row of the table with the fields of its operands.
 
 /// A row with the fields of its operands. A field that the row's form does not use is 0.
-#[derive(Clone, Copy, PartialEq, Eq, Debug)]
+#[derive(Clone, Copy)]
 pub struct Inst {
     /// The row's number in the table, below 129.
     pub row: u8,

@@ -5,7 +5,7 @@ ghost use Rattle.mips3_table.specs.Operands as law;
 
 /// The form of a row's operands. Each says its text, as an assembler writes it, and the fields that hold it.
 /// A register stands in the 5 bits of its place: rs 25:21, rt 20:16, rd 15:11.
-#[derive(Clone, Copy, PartialEq, Eq, Debug)]
+#[derive(Clone, Copy)]
 pub enum Form {
     /// `target`: bits 25:0, in words, within the 256 MB of the delay slot.
     Target,

@@ -254,6 +254,3 @@ fn first_named(name: &[u8]) -> Option<u8>
     }
     None
 }
-
-#[cfg(test)]
-mod tests;

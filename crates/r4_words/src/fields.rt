@@ -24,37 +24,3 @@ pub fn field(word: u32, high: u32, low: u32) -> u32
 {
     ((u64::from(word) >> low) % (1u64 << (high - low + 1))) as u32
 }
-
-#[cfg(test)]
-mod tests {
-    use super::*;
-
-    #[test]
-    fn the_upper_half_repeats_bit_31(rt: HostRuntime) {
-        for (word, register) in [
-            (0, 0),
-            (0x7fffffff, 0x7fffffff),
-            (0x80000000, 0xffffffff80000000),
-            (0xbf000000, 0xffffffffbf000000),
-            (0xffffffff, u64::MAX),
-        ] {
-            assert_eq!(rt; sext32(word), register);
-        }
-    }
-
-    #[test]
-    fn the_fields_of_an_instruction_word(rt: HostRuntime) {
-        // lw k0,36(k0)
-        for (high, low, bits) in [
-            (31, 26, 35),
-            (25, 21, 26),
-            (20, 16, 26),
-            (15, 0, 36),
-            (31, 0, 0x8f5a0024),
-            (31, 31, 1),
-            (0, 0, 0),
-        ] {
-            assert_eq!(rt; field(0x8f5a0024, high, low), bits);
-        }
-    }
-}

@@ -65,25 +65,3 @@ pub fn put_dec(value: u64, line: &mut Line)
 {
     push_dec(value, line);
 }
-
-#[cfg(test)]
-mod tests {
-    use super::*;
-
-    #[test]
-    fn a_line_of_texts_and_numbers(rt: HostRuntime) {
-        let mut line = Line::new();
-        put_text(b"ticks ", &mut line);
-        put_dec(10, &mut line);
-        put_text(b" halt ", &mut line);
-        put_hex(0x41, 8, &mut line);
-        put_text(b" ", &mut line);
-        put_hex(0xffffffffbf000000, 16, &mut line);
-        put_text(b" ", &mut line);
-        put_dec(u64::MAX, &mut line);
-        put_text(b" ", &mut line);
-        put_dec(0, &mut line);
-        let text: &[u8] = b"ticks 10 halt 00000041 ffffffffbf000000 18446744073709551615 0";
-        assert_eq!(rt; line.as_slice(), text);
-    }
-}

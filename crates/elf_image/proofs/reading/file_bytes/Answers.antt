@@ -1,4 +1,4 @@
-use Rattle.std.proofs.Common.{◌≡◌, ◌+◌, ◌≤◌, ◌^◌, ◌∙◌, sym, subst, length}
+use Rattle.std.proofs.Common.{◌+◌, ◌≤◌, ◌^◌, ◌∙◌, sym, subst, length}
 use Rattle.elf_image.proofs.Stores.{in_range, file_in_range}
 use Rattle.elf_image.proofs.Places.{segment_ends}
 use Rattle.elf_image.proofs.reading.file_bytes.Goals as goal

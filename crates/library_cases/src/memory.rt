@@ -1,0 +1,161 @@
+//! Memory: the verbs of flat_ram. A RAM lasts from one `ram_new` to the next, and the verbs that write answer with what
+//! stands there afterwards.
+
+ghost use Rattle.std.specs.Prelude.{◌+◌, ◌≤◌, IfSome};
+ghost use Rattle.flat_ram.specs.Map.{ram_size};
+
+use crate::arguments::{
+    bytes_of, number_at, put_bytes, put_decimal, put_hexadecimal, word_at, word_number_at,
+};
+use crate::images::Scene;
+use flat_ram::{RAM_SIZE, Ram, Spot, half_at, is_unmapped, physical, where_is, word_at as word_in};
+use std::alloc::{AllocError, Global};
+
+/// Appends the answer of a verb, and says whether it is one of these.
+pub fn put_answer(
+    alloc: Global,
+    scene: &mut Scene,
+    verb: &str,
+    arguments: &str,
+    out: &mut String,
+) -> Result<bool, AllocError> {
+    match verb {
+        "where_is" => out.push_str(spot_name(number_at(arguments, 0)))?,
+        "is_unmapped" => out.push_str(unmapped_name(word_number_at(arguments, 0)))?,
+        "physical" => put_hexadecimal(shown_address(arguments), "?", out)?,
+        "half_at" => put_half(alloc, arguments, out)?,
+        "word_at" => put_word(alloc, arguments, out)?,
+        "ram_new" => {
+            scene.ram = Ram::new(alloc)?;
+            put_decimal(Some(scene.ram.size()), "?", out)?;
+        }
+        _ => return put_ram_answer(alloc, &mut scene.ram, verb, arguments, out),
+    }
+    Ok(true)
+}
+
+fn spot_name(pa: Option<u64>) -> &'static str {
+    match pa {
+        Some(pa) => match where_is(pa) {
+            Spot::Ram => "Ram",
+            Spot::Prom => "Prom",
+            Spot::Device => "Device",
+            Spot::Empty => "Empty",
+        },
+        None => "?",
+    }
+}
+
+fn unmapped_name(va: Option<u32>) -> &'static str {
+    match va {
+        Some(va) if is_unmapped(va) => "yes",
+        Some(_) => "no",
+        None => "?",
+    }
+}
+
+fn shown_address(arguments: &str) -> Option<u64> {
+    Some(physical(word_number_at(arguments, 0)?))
+}
+
+// The half at a place of some bytes.
+fn put_half(alloc: Global, arguments: &str, out: &mut String) -> Result<(), AllocError> {
+    let bytes = bytes_of(alloc, word_at(arguments, 1))?;
+    match number_at(arguments, 0) {
+        Some(at) if at <= bytes.len() as u64 && bytes.len() as u64 - at >= 2 => {
+            write!(out, "{:#x}", half_at(&bytes, at as usize))
+        }
+        _ => out.push_str("?"),
+    }
+}
+
+// The word at a place of some bytes.
+fn put_word(alloc: Global, arguments: &str, out: &mut String) -> Result<(), AllocError> {
+    let bytes = bytes_of(alloc, word_at(arguments, 1))?;
+    match number_at(arguments, 0) {
+        Some(at) if at <= bytes.len() as u64 && bytes.len() as u64 - at >= 4 => {
+            write!(out, "{:#x}", word_in(&bytes, at as usize))
+        }
+        _ => out.push_str("?"),
+    }
+}
+
+fn put_ram_answer(
+    alloc: Global,
+    ram: &mut Ram,
+    verb: &str,
+    arguments: &str,
+    out: &mut String,
+) -> Result<bool, AllocError> {
+    match verb {
+        "ram_get" => put_hexadecimal(got(ram, arguments), "?", out)?,
+        "ram_word" => put_hexadecimal(word_of(ram, arguments), "?", out)?,
+        "ram_bytes" => put_ram_bytes(ram, arguments, out)?,
+        "ram_set" => {
+            set(ram, arguments);
+            put_hexadecimal(got(ram, arguments), "?", out)?;
+        }
+        "ram_set_word" => {
+            set_word(ram, arguments);
+            put_hexadecimal(word_of(ram, arguments), "?", out)?;
+        }
+        "ram_set_padded" => {
+            set_padded(alloc, ram, arguments)?;
+            put_ram_bytes(ram, arguments, out)?;
+        }
+        _ => return Ok(false),
+    }
+    Ok(true)
+}
+
+// The address at the first place, if so many bytes from it on lie in RAM.
+fn place_of(arguments: &str, count: u64) -> Option<u64>
+    ensures { IfSome result (λ pa. pa + count ≤ ram_size) }
+{
+    let pa = number_at(arguments, 0)?;
+    if count <= RAM_SIZE && pa <= RAM_SIZE - count {
+        Some(pa)
+    } else {
+        None
+    }
+}
+
+fn got(ram: &Ram, arguments: &str) -> Option<u64> {
+    Some(u64::from(ram.get(place_of(arguments, 1)?)))
+}
+
+fn word_of(ram: &Ram, arguments: &str) -> Option<u64> {
+    Some(u64::from(ram.word(place_of(arguments, 4)?)))
+}
+
+fn put_ram_bytes(ram: &Ram, arguments: &str, out: &mut String) -> Result<(), AllocError> {
+    let count = number_at(arguments, 1).unwrap_or(0);
+    match place_of(arguments, count) {
+        Some(pa) => put_bytes(ram.bytes(pa, count), out),
+        None => out.push_str("?"),
+    }
+}
+
+fn set(ram: &mut Ram, arguments: &str) {
+    if let Some(pa) = place_of(arguments, 1) {
+        let byte = number_at(arguments, 1).unwrap_or(0);
+        ram.set(pa, (byte % 256) as u8);
+    }
+}
+
+fn set_word(ram: &mut Ram, arguments: &str) {
+    if let Some(pa) = place_of(arguments, 4) {
+        ram.set_word(pa, word_number_at(arguments, 1).unwrap_or(0));
+    }
+}
+
+// An address, how many bytes are replaced, and the bytes before the zeros.
+fn set_padded(alloc: Global, ram: &mut Ram, arguments: &str) -> Result<(), AllocError> {
+    let count = number_at(arguments, 1).unwrap_or(0);
+    let bytes = bytes_of(alloc, word_at(arguments, 2))?;
+    match place_of(arguments, count) {
+        Some(pa) if bytes.len() as u64 <= count => ram.set_padded(pa, &bytes, count),
+        _ => {}
+    }
+    Ok(())
+}
