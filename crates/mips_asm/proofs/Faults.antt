@@ -4,7 +4,7 @@ use Rattle.std.proofs.lemmas.Bool.{cases_lt}
 use Rattle.std.specs.Option.{option_and_then}
 use Rattle.std.proofs.lemmas.Option.{option_and_then_some, slice_get_within}
 use Rattle.mips_text.specs.declared.reason.AsmWhy.{AsmWhy}
-use Rattle.mips_asm.specs.Assembly.{least, entry_after, HasNoFault}
+use Rattle.mips_asm.specs.Assembly.{least, or_at, HasNoFault}
 
 -- what stands after the first part of a list
 pub get_after : {X : Type 0} (front : List X) (one : X) (rest : List X) → slice_get (front ++ one ∷ rest) (length front) ≡ Some one
@@ -21,8 +21,8 @@ least_none_below : (fault : ℕ → Option AsmWhy) (count : ℕ) → ((n : ℕ) 
 unfolding least
 least_none_below fault zero none = refl
 least_none_below fault (suc n) none =
-    ap (λ first. entry_after first n (fault n)) (least_none_below fault n (λ k lt. none k (omega arith)))
-    ∙ ap (entry_after None n) (none n (omega arith))
+    ap (λ first. or_at first n (fault n)) (least_none_below fault n (λ k lt. none k (omega arith)))
+    ∙ ap (or_at None n) (none n (omega arith))
 
 -- lines without a fault have no least one
 pub least_none : (fault : ℕ → Option AsmWhy) (count : ℕ) → HasNoFault fault → least fault count ≡ None
@@ -31,15 +31,15 @@ least_none fault count none = least_none_below fault count (λ n lt. none n)
 least_at : (fault : ℕ → Option AsmWhy) (before : ℕ) (reason : AsmWhy) → fault before ≡ Some reason → ((n : ℕ) → n < before → fault n ≡ None) → least fault (suc before) ≡ Some (before, reason)
 unfolding least
 least_at fault before reason has none =
-    ap (λ first. entry_after first before (fault before)) (least_none_below fault before none)
-    ∙ ap (entry_after None before) has
+    ap (λ first. or_at first before (fault before)) (least_none_below fault before none)
+    ∙ ap (or_at None before) has
 
 least_from : (fault : ℕ → Option AsmWhy) (before more : ℕ) (reason : AsmWhy) → least fault (suc before) ≡ Some (before, reason) → least fault (more + suc before) ≡ Some (before, reason)
 unfolding least
 least_from fault before zero reason is = rw zero-add is
 least_from fault before (suc more) reason is =
     let next : suc more + suc before ≡ suc (more + suc before) = omega arith in
-    ap (least fault) next ∙ ap (λ first. entry_after first (more + suc before) (fault (more + suc before))) (least_from fault before more reason is)
+    ap (least fault) next ∙ ap (λ first. or_at first (more + suc before) (fault (more + suc before))) (least_from fault before more reason is)
 
 -- the least fault is the first one
 pub least_first : (fault : ℕ → Option AsmWhy) (count before : ℕ) (reason : AsmWhy) → before < count → fault before ≡ Some reason → ((n : ℕ) → n < before → fault n ≡ None) → least fault count ≡ Some (before, reason)

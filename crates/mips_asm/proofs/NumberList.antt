@@ -1,16 +1,16 @@
 -- The tokens that are expected: those of a list of numbers, and their ranges.
-use Rattle.std.proofs.Common.{◌≡◌, ◌-◌, ◌<◌, ◌≤◌, ℕ, zero, suc, List, [], ◌∷◌, ◌++◌, refl, ap, arith, rules}
+use Rattle.std.proofs.Common.{◌≡◌, ◌-◌, ◌<◌, ℕ, zero, suc, [], ◌∷◌, refl, ap, arith, rules}
 use Rattle.std.specs.List.{All}
 use Rattle.std.proofs.lemmas.List.Elements.{All-cons, All-nil}
 use Rattle.mips3_table.specs.declared.operand_forms.Form.{Form}
 use Rattle.mips3_table.specs.declared.operand_forms.Form.TheVariants as form
 use Rattle.mips3_table.specs.Rows.{row_at}
 use Rattle.mips_text.specs.declared.operand.Range.{Range}
-use Rattle.mips_text.specs.declared.operand.Range.TheVariants.{Unsigned, EitherSign}
+use Rattle.mips_text.specs.declared.operand.Range.TheVariants.{EitherSign}
 use Rattle.mips_text.specs.declared.operand.Field.TheVariants.{Imm}
 use Rattle.mips_text.specs.declared.operand.Expected.TheVariants.{ANumber, AMark}
 use Rattle.mips_text.specs.declared.statement.Statement.{Statement}
-use Rattle.mips_text.specs.declared.statement.Statement.TheVariants.{Instruction, Li, La, Move, Nop, Branch, Org, Word, Byte, Space, Align, Ascii}
+use Rattle.mips_text.specs.declared.statement.Statement.TheVariants.{Instruction, Word, Byte}
 use Rattle.mips_text.specs.Forms.{operands_of, separated, shape_of}
 use Rattle.mips_text.specs.Line.{numbers_expected, tokens_expected}
 use Rattle.mips_asm.specs.StatementsOf.{IsNarrow, IsNarrowAt}

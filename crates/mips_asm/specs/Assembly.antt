@@ -68,16 +68,16 @@ pub record IsFirstFault (fault : ℕ → Option AsmWhy) (number : ℕ) (reason :
   pub has : fault before ≡ Some reason
   pub none_before : (n : ℕ) → n < before → fault n ≡ None
 
--- an entry, where there is none before it
-abbrev pub entry_after : Option (ℕ × AsmWhy) → ℕ → Option AsmWhy → Option (ℕ × AsmWhy)
-entry_after (Some first) n fault = Some first
-entry_after None n (Some reason) = Some (n, reason)
-entry_after None n None = None
+-- what was found before, else what is at n
+abbrev pub or_at : {A : Type 0} → Option (ℕ × A) → ℕ → Option A → Option (ℕ × A)
+or_at (Some first) n found = Some first
+or_at None n (Some one) = Some (n, one)
+or_at None n None = None
 
--- the least n below a count that has a fault, and the fault
-unfoldable pub least : (ℕ → Option AsmWhy) → ℕ → Option (ℕ × AsmWhy)
-least fault zero = None
-least fault (suc n) = entry_after (least fault n) n (fault n)
+-- the least n below a count at which there is something, and what is there
+unfoldable pub least : {A : Type 0} → (ℕ → Option A) → ℕ → Option (ℕ × A)
+least at zero = None
+least at (suc n) = or_at (least at n) n (at n)
 
 -- THE ASSEMBLY
 

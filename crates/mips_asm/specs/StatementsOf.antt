@@ -1,4 +1,4 @@
--- What holds of each statement that a name tells, and of each token that a statement expects.
+-- What holds of each statement that a name tells, of each token that a statement expects, and of the values that are read.
 use Rattle.std.specs.Prelude.{ℕ, ℤ, pos, negsuc, ◌-◌, ◌%◌, ◌^◌, ◌≡◌, ◌<◌, ◌≤◌, Bool, true, false, List, ◌++◌, Option, Some, None}
 use Rattle.mips_text.specs.declared.operand.Field.{Field}
 use Rattle.mips_text.specs.declared.operand.Field.TheVariants.{Imm}

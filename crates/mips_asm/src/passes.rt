@@ -126,8 +126,12 @@ pub fn first_pass(alloc: Global, base: u32, source: &[u8]) -> Result<Labels, Asm
 fn fill_line(labels: &Labels, at: u64, line: &[u8], bytes: &mut Vec<u8>) -> Result<(), Stop>
     requires far { at < 2 ^ 63 + 2 ^ 33 }
     requires short { length line.now ≤ 4294967294 }
-    ensures { let line = placed_at at (read_law line.now) in
+    ensures bytes { let line = placed_at at (read_law line.now) in
         IsCoded (coded_line labels.now line) result bytes.old.items bytes.new.items }
+
+    // As many bytes as the first pass has counted.
+    ensures size { let size = layout.size_read at (read_law line.now) in
+        OnOk result (length bytes.new.items ≡ length bytes.old.items + size) }
 {
     match read_line(line) {
         Ok(

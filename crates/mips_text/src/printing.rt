@@ -64,7 +64,9 @@ fn put_statement(inst: &Inst, at: u32, out: &mut Line)
 fn put_row(inst: &Inst, at: u32, out: &mut Line)
     requires inst { IsInst inst.now }
     requires room { array_vec_len out.old ≤ 0 }
-    ensures { out.new.items ≡ out.old.items ++ by_form (row_at inst.now.row).name (row_at inst.now.row).form inst.now at }
+    ensures {
+        let row = row_at inst.now.row in out.new.items ≡ out.old.items ++ by_form row.name row.form inst.now at
+    }
 {
     put_name(inst.row, out);
     put_operands(operands_of(form_of(inst.row)), inst, at, out);

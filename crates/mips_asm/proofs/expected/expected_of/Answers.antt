@@ -1,4 +1,4 @@
-use Rattle.std.proofs.Common.{◌≡◌, ◌/◌, ◌++◌, sym, ap, ◌∙◌, subst}
+use Rattle.std.proofs.Common.{◌/◌, ◌++◌, sym, ap, ◌∙◌, subst}
 use Rattle.std.specs.List.{All}
 use Rattle.mips_text.specs.declared.operand.Range.TheVariants.{EitherSign}
 use Rattle.mips_text.specs.declared.statement.Statement.TheVariants.{Word, Byte}

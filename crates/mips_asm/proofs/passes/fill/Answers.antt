@@ -17,7 +17,7 @@ returns-in-Err-Lacks-clause-fault c =
     let split = c.split_line-split in
     let here = with_first (IsFilledTo c.args.base c.args.labels.now (readings_of c.args.source.now) c.loop-rest.number c.loop-rest.bytes.items) c.loop-rest.rest.now split.result.line.now split.result.rest.now split.ensures.lines c.loop-rest.invariant.0 in
     let at : c.from.result + c.len.result ≡ c.args.base + length c.loop-rest.bytes.items = omega (arith, c.from.ensures, c.len.ensures) in
-    let lacks = rw c.in-Err-Lacks.field-0-is at c.in-Err-Lacks.ensures in
+    let lacks = rw c.in-Err-Lacks.field-0-is at c.in-Err-Lacks.ensures.bytes in
     rw c.in-Err-Lacks.field-0-is
     (filled_fault _ _ _ _ _ _ _ c.in-Err-Lacks.why here (subst (λ address. coded_line c.args.labels.now (placed_at address (read_line split.result.line.now)) ≡ Lacking c.in-Err-Lacks.why) at lacks))
 
@@ -27,7 +27,7 @@ loop-rest-preserved c =
     let here = with_first (IsFilledTo c.args.base c.args.labels.now (readings_of c.args.source.now) c.loop-rest.number c.loop-rest.bytes.items) c.loop-rest.rest.now split.result.line.now split.result.rest.now split.ensures.lines c.loop-rest.invariant.0 in
     let at : c.from.result + c.len.result ≡ c.args.base + length c.loop-rest.bytes.items = omega (arith, c.from.ensures, c.len.ensures) in (
       filled_on _ _ _ _ _ _ _ c.fill_line.new.bytes.items here
-          (subst (λ address. IsAppended (coded_line c.args.labels.now (placed_at address (read_line split.result.line.now))) c.loop-rest.bytes.items c.fill_line.new.bytes.items) at c.in-Ok.ensures),
+          (subst (λ address. IsAppended (coded_line c.args.labels.now (placed_at address (read_line split.result.line.now))) c.loop-rest.bytes.items c.fill_line.new.bytes.items) at c.in-Ok.ensures.bytes),
       omega (arith, c.loop-rest.invariant, split.ensures.shorter),
     )
 
