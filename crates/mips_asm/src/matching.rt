@@ -8,9 +8,7 @@ ghost use Rattle.mips_text.specs.Line as law;
 ghost use Rattle.mips_asm.specs.StatementsOf.{IsNarrowAt};
 
 use crate::ranges::is_in_range;
-use mips_text::{
-    Expected, Range, Token, TokenKind, cp0_register_of, register_of, text_size,
-};
+use mips_text::{Expected, Range, Token, TokenKind, cp0_register_of, register_of, text_size};
 
 /// The text of a token in its line.
 pub fn text_of<'a>(line: &'a [u8], token: &Token) -> &'a [u8]

@@ -259,7 +259,11 @@ fn bytes_of<'a>(line: &[u8], operands: &[Token]) -> Option<Bytes<'a>>
 {
     let mut bytes = ArrayVec::new();
     let all = put_bytes(line, operands, &mut bytes);
-    if all { Some(Bytes::of_numbers(bytes)) } else { None }
+    if all {
+        Some(Bytes::of_numbers(bytes))
+    } else {
+        None
+    }
 }
 
 /// The alignment of a number's text.

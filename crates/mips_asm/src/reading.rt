@@ -69,9 +69,7 @@ fn read_operands<'a>(
     requires few { length operands.now < 64 }
     requires row { IsStatement statement }
     requires within { All (IsWithin (length line.now)) operands.now }
-    ensures reading {
-        reading_shown result ≡ law.statement_by_name line.now label.entry (Some statement) operands.now
-    }
+    ensures reading { reading_shown result ≡ law.statement_by_name line.now label.entry (Some statement) operands.now }
     ensures sound { IfOk result IsSoundLine }
 {
     if let Some(why) = operands_fault(line, statement, operands) {
@@ -110,9 +108,7 @@ fn read_statement<'a>(
 /// Whether two tokens are a name and `:`.
 fn is_label(line: &[u8], name: &Token, colon: &Token) -> bool
     requires { IsWithin (length line.now) colon.now }
-    ensures {
-        result ≡ law.is_name name.now.kind && law.is_colon colon.now.kind (forms.token_text line.now colon.now)
-    }
+    ensures { result ≡ law.is_name name.now.kind && law.is_colon colon.now.kind (forms.token_text line.now colon.now) }
 {
     if !matches!(name.kind, TokenKind::Name) || !matches!(colon.kind, TokenKind::Mark) {
         return false;

@@ -113,8 +113,8 @@ form_read inst at is within =
     let cut = cut_line (piece Name name) inst at operands (row_piece inst.row is.row) fit (few_operands form) in
     let item : Item = said form (read_by form inst) inst at in
     let puts : item_placed inst.row places ≡ Some item =
-        ap (option_and_then (λ read. item_by operands read (target_placed places))) (with_operands_back inst at operands (bare inst.row) fit)
-        ∙ item_said form (read_by form inst) inst at is.fields in
+    ap (option_and_then (λ read. item_by operands read (target_placed places))) (with_operands_back inst at operands (bare inst.row) fit)
+    ∙ item_said form (read_by form inst) inst at is.fields in
     record {
       item = item;
       is_read =

@@ -37,7 +37,7 @@ unfolding register_of
 register_below text register is =
     fp_or (bytes_eq text (codes "fp")) (or_else (position (bytes_eq text) register_names) (numbered 36 text)) register
     (λ r found. either_below (position (bytes_eq text) register_names) (numbered 36 text) r (λ q. listed_below register_names text q register_count)
-      (λ q. numbered_by (slice_index text 0 == 36) (read_dec (drop 1 text)) q) found)
+    (λ q. numbered_by (slice_index text 0 == 36) (read_dec (drop 1 text)) q) found)
     is
 
 -- a register of coprocessor 0

@@ -125,7 +125,9 @@ impl<'a> Bytes<'a> {
     pub fn of_numbers(list: ArrayVec<u8, 64>) -> Self
         ensures { result ≡ list.items }
     {
-        Bytes { source: Source::Numbers(list) }
+        Bytes {
+            source: Source::Numbers(list),
+        }
     }
 
     /// The bytes of a text in quotes; None where a backslash stands before a byte that it does not escape.

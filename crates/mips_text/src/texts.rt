@@ -84,9 +84,7 @@ fn size_of(inside: &[u8]) -> Option<usize>
 #[tactic(auto, unfolding(crate::specs::Values::bytes_of_text))]
 pub fn push_text(text: &[u8], out: &mut Vec<u8>) -> Result<(), Memory>
     requires { IsSome (values.bytes_of_text text.now) }
-    ensures ok {
-        OnOk result (IfSome (values.bytes_of_text text.now) (λ bytes. out.new.items ≡ out.old.items ++ bytes))
-    }
+    ensures ok { OnOk result (IfSome (values.bytes_of_text text.now) (λ bytes. out.new.items ≡ out.old.items ++ bytes)) }
     ensures err { OnErr result (out.new.items ≡ out.old.items) }
 {
     let before = out.len();
@@ -102,9 +100,7 @@ pub fn push_text(text: &[u8], out: &mut Vec<u8>) -> Result<(), Memory>
 /// Appends the bytes that the inside of a text stands for, or where memory is wanting some of them.
 fn push_inside(inside: &[u8], out: &mut Vec<u8>) -> Result<(), Memory>
     requires { IsSome (values.unescaped false inside.now) }
-    ensures ok {
-        OnOk result (IfSome (values.unescaped false inside.now) (λ bytes. out.new.items ≡ out.old.items ++ bytes))
-    }
+    ensures ok { OnOk result (IfSome (values.unescaped false inside.now) (λ bytes. out.new.items ≡ out.old.items ++ bytes)) }
     ensures front { take (vec_len out.old) out.new.items ≡ out.old.items }
 {
     let mut at = 0;
