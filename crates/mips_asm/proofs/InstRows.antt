@@ -1,4 +1,4 @@
--- The row of an instruction stays while its operands are read, and `beq` takes any number of 16 bits.
+-- An instruction whose fields have the widths of its row can be coded with any number that its target needs.
 use Rattle.std.proofs.Common.{◌≡◌, ◌<◌, ◌≤◌, ◌^◌, ℕ, List, [], ◌∷◌, length, slice_index_or, refl, ap, sym, ◌∙◌, subst, arith}
 use Rattle.mips3_table.specs.declared.instruction.Inst.{Inst}
 use Rattle.mips3_table.specs.declared.operand_forms.Form.{Form}
@@ -17,28 +17,6 @@ use Rattle.mips_text.specs.declared.operand.Expected.TheVariants.{ARegister, ACp
 use Rattle.mips_text.specs.Forms.{operands_of, token_text}
 use Rattle.mips_asm.specs.Shown.{IsSoundBy}
 use Rattle.mips_text.specs.Line.{with_field, with_operand, with_operands, bare, beq_row}
-
-field_row : (field : Field) (value : ℕ) (inst : Inst) → (with_field field value inst).row ≡ inst.row
-field_row Rs value inst = refl
-field_row Rt value inst = refl
-field_row Rd value inst = refl
-field_row Sa value inst = refl
-field_row Imm value inst = refl
-
-operand_row : (one : Expected) (text : List ℕ) (inst : Inst) → (with_operand one text inst).row ≡ inst.row
-operand_row (ARegister field) text inst = field_row field _ inst
-operand_row (ACp0Register field) text inst = field_row field _ inst
-operand_row (ANumber field range) text inst = field_row field _ inst
-operand_row ATarget text inst = refl
-operand_row ALabel text inst = refl
-operand_row AText text inst = refl
-operand_row (AMark code) text inst = refl
-
-pub operands_row : (line : List ℕ) (expected : List Expected) (tokens : List Token) (inst : Inst) → (with_operands line expected tokens inst).row ≡ inst.row
-operands_row line [] tokens inst = refl
-operands_row line (one ∷ expected) [] inst = refl
-operands_row line (one ∷ expected) (token ∷ tokens) inst =
-    operands_row line expected tokens (with_operand one (token_text line token) inst) ∙ operand_row one (token_text line token) inst
 
 -- an instruction whose fields have the widths of its row's form is one of the table, and is so with another number
 is_inst : (w : Widths) (inst : Inst) → inst.row < 129 → w ≡ widths_at inst.row → FitsWidths w inst → IsInst inst

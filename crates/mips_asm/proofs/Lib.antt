@@ -3,6 +3,7 @@ pub mod LabelList
 pub mod Bounds
 pub mod NumberList
 pub mod InstRows
+pub mod OperandFields
 pub mod LineList
 pub mod Bases
 pub mod Sizes

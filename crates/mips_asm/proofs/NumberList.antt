@@ -24,9 +24,9 @@ numbers_last zero range none = refl
 numbers_last (suc more) range none = absurd (omega arith)
 
 narrow_numbers : (more : ℕ) (range : Range) → IsNarrow range → All IsNarrowAt (numbers_expected more range)
-narrow_numbers zero range narrow = All-cons IsNarrowAt (ANumber Imm range) [] narrow (All-nil IsNarrowAt)
+narrow_numbers zero range narrow = All-cons IsNarrowAt (ANumber Imm range) [] (narrow, tt) (All-nil IsNarrowAt)
 narrow_numbers (suc more) range narrow =
-    All-cons IsNarrowAt (ANumber Imm range) (AMark 44 ∷ numbers_expected more range) narrow
+    All-cons IsNarrowAt (ANumber Imm range) (AMark 44 ∷ numbers_expected more range) (narrow, tt)
     (All-cons IsNarrowAt (AMark 44) (numbers_expected more range) tt (narrow_numbers more range narrow))
 
 narrow_form : (one : Form) → All IsNarrowAt (separated (operands_of one))

@@ -27,8 +27,10 @@ AssemblesTo text at word = assembled (source_at at text) ≡ Image at at (bytes_
 
 -- What is printed of an instruction of the table assembles to the instruction's word.
 abbrev pub InstructionsAssemble : Type 0
-InstructionsAssemble = (inst : Inst) (at : ℕ) → IsInst inst → IsPlace at → AssemblesTo (text_of inst at) at (encoded inst)
+InstructionsAssemble =
+    (inst : Inst) (at : ℕ) → IsInst inst → IsPlace at → AssemblesTo (text_of inst at) at (encoded inst)
 
 -- What is printed of a word assembles to the word that is kept of it: its instruction's, and a reserved word itself.
 abbrev pub WordsAssemble : Type 0
-WordsAssemble = (word at : ℕ) → word < 2 ^ 32 → IsPlace at → AssemblesTo (word_text word at) at (word_kept word (decoded word))
+WordsAssemble =
+    (word at : ℕ) → word < 2 ^ 32 → IsPlace at → AssemblesTo (word_text word at) at (word_kept word (decoded word))

@@ -128,7 +128,8 @@ fn put_branch(
     bytes: &mut Vec<u8>,
 ) -> Result<(), Stop>
     requires { (number : ℕ) → number < 2 ^ 16 → IsInst (record inst.now { imm = number }) }
-    ensures { IsCoded (law.where_known (law.address_of labels.now target.now) (law.branch_to inst.now at)) result bytes.old.items bytes.new.items }
+    ensures { IsCoded (law.where_known (law.address_of labels.now target.now) (law.branch_to inst.now at)) result
+        bytes.old.items bytes.new.items }
 {
     let Some(address) = address_of(labels, target) else {
         return Err(Stop::Lacks(AsmWhy::NoLabel));
@@ -149,7 +150,8 @@ fn put_jump(
     bytes: &mut Vec<u8>,
 ) -> Result<(), Stop>
     requires { (number : ℕ) → number < 2 ^ 26 → IsInst (record inst.now { imm = number }) }
-    ensures { IsCoded (law.where_known (law.address_of labels.now target.now) (law.jump_to inst.now at)) result bytes.old.items bytes.new.items }
+    ensures { IsCoded (law.where_known (law.address_of labels.now target.now) (law.jump_to inst.now at)) result
+        bytes.old.items bytes.new.items }
 {
     let Some(address) = address_of(labels, target) else {
         return Err(Stop::Lacks(AsmWhy::NoLabel));
@@ -169,7 +171,8 @@ fn put_label_loading(
     bytes: &mut Vec<u8>,
 ) -> Result<(), Stop>
     requires { register < 32 }
-    ensures { IsCoded (law.where_known (label_at labels.now name.now) (λ number. law.Given (law.loading register number))) result bytes.old.items bytes.new.items }
+    ensures { IsCoded (law.where_known (label_at labels.now name.now) (λ number. law.Given (law.loading register number)))
+        result bytes.old.items bytes.new.items }
 {
     let Some(number) = labels.address_of(name) else {
         return Err(Stop::Lacks(AsmWhy::NoLabel));
@@ -183,7 +186,8 @@ fn put_label_loading(
 fn put_plain(at: u64, item: &Item, bytes: &mut Vec<u8>) -> Result<(), AllocError>
     requires sound { IsSound item.now }
     requires plain { NeedsNoLabel item.now }
-    ensures { (labels : List (List ℕ × ℕ)) → OnOk result (IsAppended (law.coded_at labels at item.now) bytes.old.items bytes.new.items) }
+    ensures { (labels : List (List ℕ × ℕ)) →
+        OnOk result (IsAppended (law.coded_at labels at item.now) bytes.old.items bytes.new.items) }
 {
     match item {
         Item::Plain(inst) => put_word(encode(inst), bytes),

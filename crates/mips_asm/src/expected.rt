@@ -32,8 +32,6 @@ const ADDRESS: Expected = Expected::ANumber(Field::Imm, Range::Unsigned(32));
 
 const WORD: Expected = Expected::ANumber(Field::Imm, Range::EitherSign(32));
 
-const ANY: Expected = Expected::ANumber(Field::Imm, Range::AnyNumber);
-
 /// Appends tokens.
 fn put(tokens: &[Expected], out: &mut ExpectedTokens)
     requires { array_vec_len out.old + length tokens.now ≤ 64 }
@@ -108,7 +106,7 @@ pub fn expected_of(statement: Statement, count: usize) -> ExpectedTokens
         Statement::Move => put(&[RD, COMMA, RS], &mut out),
         Statement::Branch => put(&[Expected::ATarget], &mut out),
         Statement::Org | Statement::Space => put(&[ADDRESS], &mut out),
-        Statement::Align => put(&[ANY], &mut out),
+        Statement::Align => put(&[Expected::AnAlignment], &mut out),
         Statement::Ascii => put(&[Expected::AText], &mut out),
         Statement::Nop => {}
         Statement::Word => put_numbers(Range::EitherSign(32), count / 2, &mut out),

@@ -4,13 +4,11 @@ ghost use Rattle.std.specs.Prelude.{◌≡◌, ◌≤◌, ℕ, true, length, sli
 ghost use Rattle.std.specs.List.{All};
 ghost use Rattle.mips_text.specs.Forms as forms;
 ghost use Rattle.mips_text.specs.Tokens.{IsWithin};
-ghost use Rattle.mips_text.specs.Values as values;
 ghost use Rattle.mips_text.specs.Line as law;
-ghost use Rattle.mips_asm.specs.StatementsOf.{IsNarrow, IsNarrowAt};
+ghost use Rattle.mips_asm.specs.StatementsOf.{IsNarrowAt};
 
-use mips_text::{
-    Expected, Range, Token, TokenKind, cp0_register_of, number_of, register_of, text_size,
-};
+use crate::ranges::is_in_range;
+use mips_text::{Expected, Range, Token, TokenKind, cp0_register_of, register_of, text_size};
 
 /// The text of a token in its line.
 pub fn text_of<'a>(line: &'a [u8], token: &Token) -> &'a [u8]
@@ -74,40 +72,10 @@ fn has_kind(one: &Expected, kind: TokenKind, text: &[u8]) -> bool
         Expected::ARegister(_) | Expected::ACp0Register(_) | Expected::ALabel => {
             matches!(kind, TokenKind::Name)
         }
-        Expected::ANumber(..) => matches!(kind, TokenKind::Number),
+        Expected::ANumber(..) | Expected::AnAlignment => matches!(kind, TokenKind::Number),
         Expected::ATarget => matches!(kind, TokenKind::Name | TokenKind::Number),
         Expected::AText => is_text(kind, text),
         Expected::AMark(code) => is_mark(*code, kind, text),
-    }
-}
-
-/// Whether a number lies in a range.
-fn contains(range: Range, number: i64) -> bool
-    requires { IsNarrow range }
-    ensures { result ≡ forms.in_range range number }
-{
-    match range {
-        Range::Unsigned(width) => 0 <= number && number <= (1i64 << width) - 1,
-        Range::WithSign(width) => {
-            let half = 1i64 << (width - 1);
-            -half <= number && number <= half - 1
-        }
-        Range::EitherSign(width) => {
-            -(1i64 << (width - 1)) <= number && number <= (1i64 << width) - 1
-        }
-        Range::AnyNumber => true,
-    }
-}
-
-/// Whether a number's text lies in a range.
-#[tactic(auto, using(crate::proofs::Bounds::far_outside))]
-fn holds(range: Range, text: &[u8]) -> bool
-    requires { IsNarrow range }
-    ensures { result ≡ forms.in_range range (values.number_of text.now) }
-{
-    match number_of(text) {
-        Some(number) => contains(range, number),
-        None => matches!(range, Range::AnyNumber),
     }
 }
 
@@ -120,8 +88,8 @@ fn has_range(one: &Expected, kind: TokenKind, text: &[u8]) -> bool
         return true;
     }
     match one {
-        Expected::ANumber(_, range) => holds(*range, text),
-        Expected::ATarget => holds(Range::Unsigned(32), text),
+        Expected::ANumber(_, range) => is_in_range(*range, text),
+        Expected::ATarget => is_in_range(Range::Unsigned(32), text),
         _ => true,
     }
 }

@@ -1,124 +1,107 @@
 //! What the operands of a statement stand for.
 
-ghost use Rattle.std.specs.Prelude.{◌≡◌, ◌<◌, ◌≤◌, ◌+◌, ◌++◌, ◌%◌, ◌^◌, [], pos, negsuc, ◌≤ℤ◌, length, IfSome};
+ghost use Rattle.std.specs.Prelude.{◌≡◌, ◌<◌, ◌≤◌, ◌+◌, [], ◌∷◌, length, option_map, IfSome};
 ghost use Rattle.std.specs.List.{All};
 ghost use Rattle.arrayvec.specs.ArrayVec.{array_vec_len};
 ghost use Rattle.mips3_table.specs.Instructions.{FitsWidths, widths_at};
-ghost use Rattle.mips3_table.specs.Operands.{widths_of as widths_law};
 ghost use Rattle.mips_text.specs.Forms as forms;
 ghost use Rattle.mips_text.specs.Tokens.{IsWithin};
 ghost use Rattle.mips_text.specs.Values.{number_of as number_law};
 ghost use Rattle.mips_text.specs.Line as law;
 ghost use Rattle.mips_asm.specs.Shown.{IsSound, IsSoundBy};
-ghost use Rattle.mips_asm.specs.StatementsOf.{IsStatement};
+ghost use Rattle.mips_asm.specs.StatementsOf.{ArePut, IsNarrow, IsNarrowAt, IsOfField, IsStatement};
 
 use crate::expected::expected_of;
 use crate::matching::text_of;
+use crate::ranges::bits_in;
 use arrayvec::ArrayVec;
 use mips_text::{
-    Bytes, Expected, Field, Item, Name, Operand, Statement, Target, Token, TokenKind, Words,
+    Bytes, Expected, Field, Item, Name, Operand, Range, Statement, Target, Token, TokenKind, Words,
     cp0_register_of, number_of, operands_of, register_of,
 };
-use mips3_table::{Form, Inst, form_of, widths_of};
+use mips3_table::{Inst, form_of};
 
 /// The rows of `beq` and `or` in the table.
 const BEQ: u8 = 2;
 
 const OR: u8 = 91;
 
-/// The number of a text that lies in a field, 0 for one of 2^32 or more.
-fn number_value(text: &[u8]) -> i64
-    ensures value { result ≡ law.number_value text.now }
-    ensures low { negsuc 4294967295 ≤ℤ result }
-    ensures high { result ≤ℤ pos 4294967295 }
-{
-    number_of(text).unwrap_or(0)
-}
-
-/// So many low bits of a number in two's complement.
-fn low_bits(width: u8, number: i64) -> u32
-    requires { width ≤ 32 }
-    ensures { result ≡ law.in_bits width number }
-{
-    number.rem_euclid(1i64 << width) as u32
-}
-
-fn register_value(text: &[u8]) -> u8
-    ensures value { result ≡ law.register_value text.now }
-    ensures small { result < 32 }
-{
-    register_of(text).unwrap_or(0) % 32
-}
-
-fn cp0_register_value(text: &[u8]) -> u8
-    ensures { result ≡ law.cp0_register_value text.now }
-{
-    cp0_register_of(text).unwrap_or(0) % 32
-}
+/// The range of an address.
+const ADDRESS: Range = Range::Unsigned(32);
 
 /// An instruction with another value in a field.
-fn with_field(field: Field, value: u32, inst: Inst) -> Inst
-    ensures { result ≡ law.with_field field value inst }
+fn with_field(field: Field, inst: Inst, value: u32) -> Inst
+    requires { IsOfField field value }
+    ensures { result ≡ law.with_field field inst value }
 {
-    let small = (value % 32) as u8;
     match field {
-        Field::Rs => Inst { rs: small, ..inst },
-        Field::Rt => Inst { rt: small, ..inst },
-        Field::Rd => Inst { rd: small, ..inst },
-        Field::Sa => Inst { sa: small, ..inst },
+        Field::Rs => Inst {
+            rs: value as u8,
+            ..inst
+        },
+        Field::Rt => Inst {
+            rt: value as u8,
+            ..inst
+        },
+        Field::Rd => Inst {
+            rd: value as u8,
+            ..inst
+        },
+        Field::Sa => Inst {
+            sa: value as u8,
+            ..inst
+        },
         Field::Imm => Inst { imm: value, ..inst },
     }
 }
 
+/// An instruction with a register in a field.
+fn with_register(field: Field, inst: Inst, register: Option<u8>) -> Option<Inst>
+    requires { IfSome register (λ number. number < 32) }
+    ensures { result ≡ option_map (law.with_field field inst) register }
+{
+    match register {
+        Some(number) => Some(with_field(field, inst, u32::from(number))),
+        None => None,
+    }
+}
+
 /// An instruction with the field that a token gives.
-fn with_operand(one: &Expected, text: &[u8], inst: Inst) -> Inst
+#[tactic(auto, using(crate::proofs::OperandFields::bits_of_field))]
+fn with_operand(one: &Expected, text: &[u8], inst: Inst) -> Option<Inst>
+    requires { IsNarrowAt one.now }
     ensures { result ≡ law.with_operand one.now text.now inst }
 {
     match one {
-        Expected::ARegister(field) => with_field(*field, u32::from(register_value(text)), inst),
-        Expected::ACp0Register(field) => {
-            with_field(*field, u32::from(cp0_register_value(text)), inst)
-        }
-        Expected::ANumber(field, _) => with_field(*field, low_bits(32, number_value(text)), inst),
-        Expected::ATarget | Expected::ALabel | Expected::AText | Expected::AMark(_) => inst,
+        Expected::ARegister(field) => with_register(*field, inst, register_of(text)),
+        Expected::ACp0Register(field) => with_register(*field, inst, cp0_register_of(text)),
+        Expected::ANumber(field, range) => match bits_in(*range, text) {
+            Some(bits) => Some(with_field(*field, inst, bits)),
+            None => None,
+        },
+        Expected::AnAlignment
+        | Expected::ATarget
+        | Expected::ALabel
+        | Expected::AText
+        | Expected::AMark(_) => Some(inst),
     }
 }
 
 /// An instruction with the fields that tokens give.
-fn with_operands(line: &[u8], expected: &[Expected], list: &[Token], inst: Inst) -> Inst
-    requires { All (IsWithin (length line.now)) list.now }
+fn with_operands(line: &[u8], expected: &[Expected], list: &[Token], inst: Inst) -> Option<Inst>
+    requires within { All (IsWithin (length line.now)) list.now }
+    requires narrow { All IsNarrowAt expected.now }
     ensures { result ≡ law.with_operands line.now expected.now list.now inst }
 {
     let [one, expected @ ..] = expected else {
-        return inst;
+        return Some(inst);
     };
     let [token, list @ ..] = list else {
-        return inst;
+        return None;
     };
-    let next = with_operand(one, text_of(line, token), inst);
-    with_operands(line, expected, list, next)
-}
-
-/// So many low bits of a register's field.
-fn cut(field: u8, width: u8) -> u8
-    requires { width ≤ 5 }
-    ensures { result ≡ field % 2 ^ width }
-{
-    field % (1u8 << width)
-}
-
-/// An instruction whose fields are the low bits that its form has.
-fn fitted(form: Form, inst: Inst) -> Inst
-    ensures { result ≡ law.fitted (widths_law form) inst }
-{
-    let widths = widths_of(form);
-    Inst {
-        row: inst.row,
-        rs: cut(inst.rs, widths.rs),
-        rt: cut(inst.rt, widths.rt),
-        rd: cut(inst.rd, widths.rd),
-        sa: cut(inst.sa, widths.sa),
-        imm: inst.imm % (1u32 << widths.number),
+    match with_operand(one, text_of(line, token), inst) {
+        Some(next) => with_operands(line, expected, list, next),
+        None => None,
     }
 }
 
@@ -137,50 +120,63 @@ pub fn bare(row: u8) -> Inst
 }
 
 /// The instruction of a row with the operands of a statement.
-#[tactic(auto, using(crate::proofs::InstRows::operands_row))]
-fn inst_of(line: &[u8], row: u8, statement: Statement, operands: &[Token]) -> Inst
+fn inst_of(line: &[u8], row: u8, statement: Statement, operands: &[Token]) -> Option<Inst>
     requires few { length operands.now < 64 }
-    requires row { row < 129 }
     requires statement { IsStatement statement }
     requires within { All (IsWithin (length line.now)) operands.now }
-    ensures value { result ≡ law.inst_of line.now row statement operands.now }
-    ensures row { result.row ≡ row }
-    ensures sound { FitsWidths (widths_at row) result }
+    ensures { result ≡ law.inst_of line.now row statement operands.now }
 {
     let expected = expected_of(statement, operands.len());
-    fitted(
-        form_of(row),
-        with_operands(line, &expected, operands, bare(row)),
-    )
+    with_operands(line, &expected, operands, bare(row))
 }
 
 /// The text of the token at an index.
-fn text_at<'a>(line: &'a [u8], list: &[Token], at: usize) -> &'a [u8]
+fn text_at<'a>(line: &'a [u8], list: &[Token], at: usize) -> Option<Name<'a>>
     requires { All (IsWithin (length line.now)) list.now }
-    ensures { result.now ≡ law.text_at line.now list.now at }
+    ensures { result ≡ law.text_at line.now list.now at }
 {
     if at < list.len() {
-        text_of(line, &list[at])
+        Some(Name::new(text_of(line, &list[at])))
     } else {
-        &[]
+        None
     }
 }
 
-/// The number of a text that is not negative.
-fn natural_value(text: &[u8]) -> u32
-    ensures { result ≡ law.natural (law.number_value text.now) }
+/// The register that the token at an index names.
+fn register_at(line: &[u8], list: &[Token], at: usize) -> Option<u8>
+    requires { All (IsWithin (length line.now)) list.now }
+    ensures value { result ≡ law.register_at line.now list.now at }
+    ensures small { IfSome result (λ register. register < 32) }
 {
-    number_value(text).max(0) as u32
+    match text_at(line, list, at) {
+        Some(name) => register_of(name.text()),
+        None => None,
+    }
+}
+
+/// The number of a range that the token at an index is, as bits.
+fn number_at(range: Range, line: &[u8], list: &[Token], at: usize) -> Option<u32>
+    requires narrow { IsNarrow range }
+    requires within { All (IsWithin (length line.now)) list.now }
+    ensures { result ≡ law.number_at range line.now list.now at }
+{
+    match text_at(line, list, at) {
+        Some(name) => bits_in(range, name.text()),
+        None => None,
+    }
 }
 
 /// What a token names as a target.
-fn target_of<'a>(kind: TokenKind, text: &'a [u8]) -> Target<'a>
+fn target_of<'a>(kind: TokenKind, text: &'a [u8]) -> Option<Target<'a>>
     ensures { result ≡ law.target_of kind text.now }
 {
     if matches!(kind, TokenKind::Name) {
-        return Target::Label(Name::new(text));
+        return Some(Target::Label(Name::new(text)));
     }
-    Target::Address(natural_value(text))
+    match bits_in(Range::Unsigned(32), text) {
+        Some(address) => Some(Target::Address(address)),
+        None => None,
+    }
 }
 
 /// The target that tokens give, if one is expected.
@@ -195,39 +191,79 @@ fn target_in<'a>(line: &'a [u8], expected: &[Expected], list: &[Token]) -> Optio
         return None;
     };
     if matches!(one, Expected::ATarget) {
-        return Some(target_of(token.kind, text_of(line, token)));
+        return target_of(token.kind, text_of(line, token));
     }
     target_in(line, expected, list)
 }
 
-/// Appends the numbers among these tokens, as 32 bits each.
-fn put_words(line: &[u8], list: &[Token], out: &mut ArrayVec<u32, 64>)
+/// Appends the numbers of 32 bits among these tokens, and says whether each Number is one.
+#[tactic(auto, using(crate::proofs::OperandFields::put_first))]
+fn put_words(line: &[u8], list: &[Token], out: &mut ArrayVec<u32, 64>) -> bool
     requires room { array_vec_len out.old + length list.now ≤ 64 }
     requires within { All (IsWithin (length line.now)) list.now }
-    ensures { out.new.items ≡ out.old.items ++ law.numbers_of 32 line.now list.now }
+    ensures { ArePut (law.numbers_of (Range.EitherSign 32) line.now list.now) result out.old.items out.new.items }
 {
     let [token, list @ ..] = list else {
-        return;
+        return true;
     };
-    if matches!(token.kind, TokenKind::Number) {
-        out.push(low_bits(32, number_value(text_of(line, token))));
+    if !matches!(token.kind, TokenKind::Number) {
+        return put_words(line, list, out);
     }
-    put_words(line, list, out);
+    match bits_in(Range::EitherSign(32), text_of(line, token)) {
+        Some(word) => {
+            out.push(word);
+            put_words(line, list, out)
+        }
+        None => false,
+    }
 }
 
-/// Appends the numbers among these tokens, as 8 bits each.
-fn put_bytes(line: &[u8], list: &[Token], out: &mut ArrayVec<u8, 64>)
+/// Appends the numbers of 8 bits among these tokens, and says whether each Number is one.
+#[tactic(auto, using(crate::proofs::OperandFields::put_first))]
+fn put_bytes(line: &[u8], list: &[Token], out: &mut ArrayVec<u8, 64>) -> bool
     requires room { array_vec_len out.old + length list.now ≤ 64 }
     requires within { All (IsWithin (length line.now)) list.now }
-    ensures { out.new.items ≡ out.old.items ++ law.numbers_of 8 line.now list.now }
+    ensures { ArePut (law.numbers_of (Range.EitherSign 8) line.now list.now) result out.old.items out.new.items }
 {
     let [token, list @ ..] = list else {
-        return;
+        return true;
     };
-    if matches!(token.kind, TokenKind::Number) {
-        out.push(low_bits(8, number_value(text_of(line, token))) as u8);
+    if !matches!(token.kind, TokenKind::Number) {
+        return put_bytes(line, list, out);
     }
-    put_bytes(line, list, out);
+    match bits_in(Range::EitherSign(8), text_of(line, token)) {
+        Some(byte) => {
+            out.push(byte as u8);
+            put_bytes(line, list, out)
+        }
+        None => false,
+    }
+}
+
+/// The words of a list of numbers.
+fn words_of(line: &[u8], operands: &[Token]) -> Option<Words>
+    requires few { length operands.now < 64 }
+    requires within { All (IsWithin (length line.now)) operands.now }
+    ensures { result ≡ law.numbers_of (Range.EitherSign 32) line.now operands.now }
+{
+    let mut words = ArrayVec::new();
+    let all = put_words(line, operands, &mut words);
+    if all { Some(Words::new(words)) } else { None }
+}
+
+/// The bytes of a list of numbers.
+fn bytes_of<'a>(line: &[u8], operands: &[Token]) -> Option<Bytes<'a>>
+    requires few { length operands.now < 64 }
+    requires within { All (IsWithin (length line.now)) operands.now }
+    ensures { result ≡ law.numbers_of (Range.EitherSign 8) line.now operands.now }
+{
+    let mut bytes = ArrayVec::new();
+    let all = put_bytes(line, operands, &mut bytes);
+    if all {
+        Some(Bytes::of_numbers(bytes))
+    } else {
+        None
+    }
 }
 
 /// The alignment of a number's text.
@@ -243,86 +279,109 @@ fn alignment_of(text: &[u8]) -> Option<u8>
 }
 
 /// An instruction, which goes to the target where one of its operands is a target.
-fn item_by<'a>(operands: &[Operand], inst: Inst, target: Option<Target<'a>>) -> Item<'a>
+fn item_by<'a>(operands: &[Operand], inst: Inst, target: Option<Target<'a>>) -> Option<Item<'a>>
     requires { IsSoundBy operands.now inst }
     ensures value { result ≡ law.item_by operands.now inst target.entry }
-    ensures sound { IsSound result }
+    ensures sound { IfSome result IsSound }
 {
     let [operand, more @ ..] = operands else {
-        return Item::Plain(inst);
+        return Some(Item::Plain(inst));
     };
-    match (operand, target) {
-        (Operand::BranchTarget, Some(target)) => Item::BranchTo(inst, target),
-        (Operand::JumpTarget, Some(target)) => Item::JumpTo(inst, target),
-        (_, target) => item_by(more, inst, target),
+    match operand {
+        Operand::BranchTarget => match target {
+            Some(target) => Some(Item::BranchTo(inst, target)),
+            None => None,
+        },
+        Operand::JumpTarget => match target {
+            Some(target) => Some(Item::JumpTo(inst, target)),
+            None => None,
+        },
+        _ => item_by(more, inst, target),
     }
 }
 
 /// The instruction of a row with its operands.
-#[tactic(auto, using(crate::proofs::InstRows::sound_by_operands))]
-fn item_of_row<'a>(line: &'a [u8], row: u8, operands: &[Token]) -> Item<'a>
+#[tactic(auto, using(crate::proofs::OperandFields::sound_of_row))]
+fn item_of_row<'a>(line: &'a [u8], row: u8, operands: &[Token]) -> Option<Item<'a>>
     requires few { length operands.now < 64 }
     requires row { row < 129 }
     requires within { All (IsWithin (length line.now)) operands.now }
     ensures value { result ≡ law.item_of_row line.now row operands.now }
-    ensures sound { IsSound result }
+    ensures sound { IfSome result IsSound }
 {
     let statement = Statement::Instruction(row);
     let expected = expected_of(statement, operands.len());
     let target = target_in(line, &expected, operands);
-    item_by(
-        operands_of(form_of(row)),
-        inst_of(line, row, statement, operands),
-        target,
-    )
+    match inst_of(line, row, statement, operands) {
+        Some(inst) => item_by(operands_of(form_of(row)), inst, target),
+        None => None,
+    }
 }
 
-/// What a statement puts, by operands that have its shape.
+/// A register loaded with a number.
 #[tactic(auto, unfolding(mips_text::specs::Line::item_of))]
-pub fn item_of<'a>(line: &'a [u8], statement: Statement, operands: &[Token]) -> Item<'a>
+fn number_loading<'a>(line: &'a [u8], operands: &[Token]) -> Option<Item<'a>>
+    requires { All (IsWithin (length line.now)) operands.now }
+    ensures value { result ≡ law.item_of line.now Statement.Li operands.now }
+    ensures sound { IfSome result IsSound }
+{
+    let register = register_at(line, operands, 0)?;
+    let number = number_at(Range::EitherSign(32), line, operands, 2)?;
+    Some(Item::LoadNumber(register, number))
+}
+
+/// A register loaded with the address of a label.
+#[tactic(auto, unfolding(mips_text::specs::Line::item_of))]
+fn label_loading<'a>(line: &'a [u8], operands: &[Token]) -> Option<Item<'a>>
+    requires { All (IsWithin (length line.now)) operands.now }
+    ensures value { result ≡ law.item_of line.now Statement.La operands.now }
+    ensures sound { IfSome result IsSound }
+{
+    let register = register_at(line, operands, 0)?;
+    let name = text_at(line, operands, 2)?;
+    Some(Item::LoadLabel(register, name))
+}
+
+/// The word 0.
+fn word_of_nop() -> Words
+    ensures { result ≡ 0 ∷ [] }
+{
+    let mut words = ArrayVec::new();
+    words.push(0);
+    Words::new(words)
+}
+
+/// What a statement puts, by its operands.
+#[tactic(auto, using(crate::proofs::OperandFields::sound_of_move), unfolding(mips_text::specs::Line::item_of))]
+pub fn item_of<'a>(line: &'a [u8], statement: Statement, operands: &[Token]) -> Option<Item<'a>>
     requires few { length operands.now < 64 }
     requires row { IsStatement statement }
     requires within { All (IsWithin (length line.now)) operands.now }
     ensures value { result ≡ law.item_of line.now statement operands.now }
-    ensures sound { IsSound result }
+    ensures sound { IfSome result IsSound }
 {
     match statement {
         Statement::Instruction(row) => item_of_row(line, row, operands),
-        Statement::Li => {
-            let register = register_value(text_at(line, operands, 0));
-            Item::LoadNumber(
-                register,
-                low_bits(32, number_value(text_at(line, operands, 2))),
-            )
-        }
-        Statement::La => Item::LoadLabel(
-            register_value(text_at(line, operands, 0)),
-            Name::new(text_at(line, operands, 2)),
-        ),
-        Statement::Move => Item::Plain(inst_of(line, OR, statement, operands)),
-        Statement::Nop => {
-            let mut words = ArrayVec::new();
-            words.push(0);
-            Item::Words(Words::new(words))
-        }
+        Statement::Li => number_loading(line, operands),
+        Statement::La => label_loading(line, operands),
+        Statement::Move => Some(Item::Plain(inst_of(line, OR, statement, operands)?)),
+        Statement::Nop => Some(Item::Words(word_of_nop())),
         Statement::Branch => item_by(
             &[Operand::BranchTarget],
             bare(BEQ),
             target_in(line, &[Expected::ATarget], operands),
         ),
-        Statement::Org => Item::Origin(natural_value(text_at(line, operands, 0))),
-        Statement::Word => {
-            let mut words = ArrayVec::new();
-            put_words(line, operands, &mut words);
-            Item::Words(Words::new(words))
+        Statement::Org => Some(Item::Origin(number_at(ADDRESS, line, operands, 0)?)),
+        Statement::Word => Some(Item::Words(words_of(line, operands)?)),
+        Statement::Byte => Some(Item::Bytes(bytes_of(line, operands)?)),
+        Statement::Space => Some(Item::Zeros(number_at(ADDRESS, line, operands, 0)?)),
+        Statement::Align => {
+            let name = text_at(line, operands, 0)?;
+            Some(Item::Aligned(alignment_of(name.text())))
         }
-        Statement::Byte => {
-            let mut bytes = ArrayVec::new();
-            put_bytes(line, operands, &mut bytes);
-            Item::Bytes(Bytes::of_numbers(bytes))
+        Statement::Ascii => {
+            let name = text_at(line, operands, 0)?;
+            Some(Item::Bytes(Bytes::of_text(name.text())?))
         }
-        Statement::Space => Item::Zeros(natural_value(text_at(line, operands, 0))),
-        Statement::Align => Item::Aligned(alignment_of(text_at(line, operands, 0))),
-        Statement::Ascii => Item::Bytes(Bytes::of_text(text_at(line, operands, 0))),
     }
 }

@@ -75,7 +75,10 @@ fn read_operands<'a>(
     if let Some(why) = operands_fault(line, statement, operands) {
         return Err(why);
     }
-    with_label(label, Some(item_of(line, statement, operands)))
+    match item_of(line, statement, operands) {
+        Some(item) => with_label(label, Some(item)),
+        None => Err(AsmWhy::Operand),
+    }
 }
 
 /// A statement, which begins with its name.

@@ -1,18 +1,11 @@
 //! The statements of a source, by their names.
 
-ghost use Rattle.std.specs.Prelude.{◌≡◌, IfSome, bytes_eq};
+ghost use Rattle.std.specs.Prelude.{◌≡◌, IfSome};
 ghost use Rattle.mips_text.specs.Forms as forms;
 ghost use Rattle.mips_asm.specs.StatementsOf.{IsStatement};
 
-use mips_text::Statement;
+use mips_text::{Statement, reads};
 use mips3_table::row_named;
-
-/// Whether a text is this name.
-fn reads(text: &[u8], name: &str) -> bool
-    ensures { result ≡ bytes_eq text.now name.now }
-{
-    text == name.as_bytes()
-}
 
 /// The directive of a name, or the instruction.
 fn directive_named(text: &[u8]) -> Option<Statement>

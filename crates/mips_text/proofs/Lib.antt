@@ -12,6 +12,7 @@ pub mod Places
 pub mod OperandPlaces
 pub mod OperandValues
 pub mod FormOperands
+pub mod Registers
 pub mod Reached
 pub mod ReadBack
 pub mod ReadReserved

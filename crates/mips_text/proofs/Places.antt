@@ -1,9 +1,8 @@
 -- What stands at each place of a statement after its name: the token that is expected there beside the one that the
 -- line has. What is read from such a line depends on the kinds and the texts of its tokens alone.
-use Rattle.std.proofs.Common.{◌≡◌, ℕ, zero, suc, Bool, true, false, not, ◌&&◌, ◌||◌, if◌then◌else◌, List, [], ◌∷◌, length, slice_get, Option, Some, None, refl, ap, sym, ◌∙◌}
+use Rattle.std.proofs.Common.{◌≡◌, ℕ, zero, suc, Bool, true, false, not, ◌&&◌, ◌||◌, if◌then◌else◌, List, [], ◌∷◌, length, Option, Some, None, option_and_then, refl, ap, sym, ◌∙◌}
 use Rattle.mips3_table.specs.declared.instruction.Inst.{Inst}
 use Rattle.mips3_table.specs.Rows.{row_at}
-use Rattle.mips3_table.specs.Instructions.{widths_at}
 use Rattle.mips_text.specs.declared.reason.AsmWhy.TheVariants as why
 use Rattle.mips_text.specs.declared.token.Token.{Token}
 use Rattle.mips_text.specs.declared.token.TokenKind.{TokenKind}
@@ -16,7 +15,7 @@ use Rattle.mips_text.specs.declared.item.Target.{Target}
 use Rattle.mips_text.specs.declared.item.Target.TheVariants.{Address}
 use Rattle.mips_text.specs.declared.item.Item.{Item}
 use Rattle.mips_text.specs.declared.item.Item.TheVariants.{Plain, BranchTo, JumpTo}
-use Rattle.mips_text.specs.Line.{Parts, Reading, Read, Refused, tokens_expected, some_unknown, all_agree, all_in_range, operands_fault, with_operand, with_operands, fitted, bare, target_of, target_or, target_in, item_by, item_of, is_colon, is_name, parts_of, statement_by_fault, statement_by_name, read_statement, read_cut}
+use Rattle.mips_text.specs.Line.{Parts, Reading, Read, Refused, tokens_expected, some_unknown, all_agree, all_in_range, operands_fault, with_operand, with_operands, bare, target_of, target_or, target_in, item_by, item_of, is_colon, is_name, parts_of, with_item, statement_by_fault, statement_by_name, read_statement, read_cut}
 use Rattle.mips_text.proofs.Pieces.{Piece, piece, Spells}
 
 -- a place of a statement: what is expected there, and the token that stands there
@@ -99,16 +98,20 @@ no_fault line shape places tokens spells is agree =
     ∙ ap (λ b. if not b then Some why.Range else None) (all_within line places tokens spells agree)
 
 -- an instruction with the fields that the places give
-abbrev pub with_places : List Place → Inst → Inst
-with_places [] inst = inst
-with_places (one ∷ places) inst = with_places places (with_operand one.expected one.text inst)
+abbrev pub with_places : List Place → Inst → Option Inst
+with_places [] inst = Some inst
+with_places (one ∷ places) inst = option_and_then (with_places places) (with_operand one.expected one.text inst)
+
+same_then : (one other : Inst → Option Inst) (found : Option Inst) → ((inst : Inst) → one inst ≡ other inst) → option_and_then one found ≡ option_and_then other found
+same_then one other (Some inst) same = same inst
+same_then one other None same = refl
 
 with_spelled : (line : List ℕ) (places : List Place) (tokens : List Token) (inst : Inst) → Spells line tokens (pieces_at places) → with_operands line (expected_at places) tokens inst ≡ with_places places inst
 with_spelled line [] tokens inst spells = refl
 with_spelled line (one ∷ places) [] inst spells = absurd spells
 with_spelled line (one ∷ places) (token ∷ tokens) inst spells =
-    ap (λ t. with_operands line (expected_at places) tokens (with_operand one.expected t inst)) spells.1
-    ∙ with_spelled line places tokens (with_operand one.expected one.text inst) spells.2
+    ap (λ t. option_and_then (with_operands line (expected_at places) tokens) (with_operand one.expected t inst)) spells.1
+    ∙ same_then (with_operands line (expected_at places) tokens) (with_places places) (with_operand one.expected one.text inst) (λ next. with_spelled line places tokens next spells.2)
 
 -- the target that the places give, if one is expected
 abbrev pub target_placed : List Place → Option Target
@@ -124,17 +127,17 @@ target_spelled line (one ∷ places) (token ∷ tokens) spells =
     ∙ ap (target_or one.expected one.kind one.text) (target_spelled line places tokens spells.2)
 
 -- what a statement of a row puts, by its places
-abbrev pub item_placed : ℕ → List Place → Item
-item_placed row places = item_by (operands_of (row_at row).form) (fitted (widths_at row) (with_places places (bare row))) (target_placed places)
+abbrev pub item_placed : ℕ → List Place → Option Item
+item_placed row places = option_and_then (λ inst. item_by (operands_of (row_at row).form) inst (target_placed places)) (with_places places (bare row))
 
 pub item_of_spelled : (line : List ℕ) (row : ℕ) (places : List Place) (tokens : List Token) → Spells line tokens (pieces_at places) → expected_at places ≡ separated (operands_of (row_at row).form) →
     item_of line (Instruction row) tokens ≡ item_placed row places
 unfolding item_of
 item_of_spelled line row places tokens spells expected =
     let operands = operands_of (row_at row).form in
-    ap (λ e. item_by operands (fitted (widths_at row) (with_operands line e tokens (bare row))) (target_in line e tokens)) (sym expected)
-    ∙ ap (λ i. item_by operands (fitted (widths_at row) i) (target_in line (expected_at places) tokens)) (with_spelled line places tokens (bare row) spells)
-    ∙ ap (item_by operands (fitted (widths_at row) (with_places places (bare row)))) (target_spelled line places tokens spells)
+    ap (λ e. option_and_then (λ inst. item_by operands inst (target_in line e tokens)) (with_operands line e tokens (bare row))) (sym expected)
+    ∙ ap (option_and_then (λ inst. item_by operands inst (target_in line (expected_at places) tokens))) (with_spelled line places tokens (bare row) spells)
+    ∙ ap (λ target. option_and_then (λ inst. item_by operands inst target) (with_places places (bare row))) (target_spelled line places tokens spells)
 
 -- a line that says this alone
 abbrev pub says : Item → Reading
@@ -142,7 +145,7 @@ says item = Read (record { label = None; item = Some item })
 
 -- what a statement puts, whatever tokens spell its places
 abbrev pub Puts : List ℕ → Statement → List Place → Item → Type 0
-Puts line statement places item = (tokens : List Token) → Spells line tokens (pieces_at places) → item_of line statement tokens ≡ item
+Puts line statement places item = (tokens : List Token) → Spells line tokens (pieces_at places) → item_of line statement tokens ≡ Some item
 
 statement_spelled : (line name : List ℕ) (statement : Statement) (places : List Place) (item : Item) (tokens : List Token) → Spells line tokens (piece Name name ∷ pieces_at places) → statement_named name ≡ Some statement →
     tokens_expected (shape_of statement) (length places) ≡ expected_at places → AllAgree places → Puts line statement places item → read_statement line None tokens ≡ says item
@@ -153,7 +156,7 @@ statement_spelled line name statement places item (token ∷ tokens) spells name
     ∙ ap (λ t. statement_by_name line None (statement_named t) tokens) spells.1
     ∙ ap (λ s. statement_by_name line None s tokens) named
     ∙ ap (statement_by_fault line None statement tokens) (no_fault line (shape_of statement) places tokens spells.2 expected agree)
-    ∙ ap says (puts tokens spells.2)
+    ∙ ap (with_item None) (puts tokens spells.2)
 
 -- a statement without a label
 parts_spelled : (line name : List ℕ) (places : List Place) (tokens : List Token) → Spells line tokens (piece Name name ∷ pieces_at places) → NoColon places → parts_of line tokens ≡ record { label = None; statement = tokens }

@@ -1,5 +1,5 @@
 -- What is printed of an instruction is read back as the instruction's word.
-use Rattle.std.proofs.Common.{◌≡◌, ◌<◌, ◌≤◌, ◌+◌, ◌-◌, ◌*◌, ◌/◌, ◌%◌, ◌^◌, ◌==◌, ℕ, Bool, true, false, List, [], ◌∷◌, codes, length, nat_lt, if◌then◌else◌, refl, ap, sym, ◌∙◌, subst, arith, eq-eqb, eqb-true}
+use Rattle.std.proofs.Common.{Option, Some, option_map, option_and_then, ◌≡◌, ◌<◌, ◌≤◌, ◌+◌, ◌-◌, ◌*◌, ◌/◌, ◌%◌, ◌^◌, ◌==◌, ℕ, Bool, true, false, List, [], ◌∷◌, codes, length, nat_lt, if◌then◌else◌, refl, ap, sym, ◌∙◌, subst, arith, eq-eqb, eqb-true}
 use Rattle.mips3_code.proofs.Reach.{branch_target_below, jump_target_below}
 use Rattle.mips3_code.specs.Targets.{branch_target, jump_target}
 use Rattle.r4_words.specs.Words.{sext16}
@@ -20,8 +20,10 @@ use Rattle.mips_text.specs.Forms.{operands_of, statement_named}
 use Rattle.mips_text.specs.Printed.{AllFit, by_form, text_of}
 use Rattle.mips_text.proofs.Reached.{distance_found, number_found}
 use Rattle.mips_text.proofs.FormOperands.{fit_form, few_operands}
-use Rattle.mips_text.specs.declared.item.Item.TheVariants.{Words}
-use Rattle.mips_text.specs.Line.{read_line, read_statement, operands_fault, item_of, read_cut, parts_of, fitted, bare, natural, number_value, item_by}
+use Rattle.mips_text.specs.declared.item.Target.TheVariants.{Address}
+use Rattle.mips_text.specs.declared.item.Item.{Item}
+use Rattle.mips_text.specs.declared.item.Item.TheVariants.{Plain, BranchTo, JumpTo, Words}
+use Rattle.mips_text.specs.Line.{read_line, read_statement, operands_fault, item_of, read_cut, parts_of, bare, item_by}
 use Rattle.mips_text.specs.Coded.{word_of, word_with, branch_to, jump_to, coded_at}
 use Rattle.mips_text.specs.ReadBack.{ReadsAs}
 use Rattle.mips_text.proofs.Pieces.{piece, row_piece}
@@ -34,17 +36,9 @@ use Rattle.mips_text.proofs.OperandValues.{agree_places, all_taken, with_operand
 same_fields : (one other : Inst) → one.row ≡ other.row → one.rs ≡ other.rs → one.rt ≡ other.rt → one.rd ≡ other.rd → one.sa ≡ other.sa → one.imm ≡ other.imm → one ≡ other
 same_fields one other row rs rt rd sa imm = λ i. record { row = row i; rs = rs i; rt = rt i; rd = rd i; sa = sa i; imm = imm i }
 
--- 16 bits, extended and cut off again
-half_back : (half : ℕ) → half < 2 ^ 16 → sext16 half % 2 ^ 16 ≡ half
-half_back half lt = by_low (nat_lt half (2 ^ 15))
-  where
-    by_low : (low : Bool) → (if low then half else half + (2 ^ 32 - 2 ^ 16)) % 2 ^ 16 ≡ half
-    by_low true = omega arith
-    by_low false = omega arith
-
 -- the instruction that is read by the operands of a form
 abbrev read_by : Form → Inst → Inst
-read_by form inst = fitted (widths_of form) (all_taken (operands_of form) inst (bare inst.row))
+read_by form inst = all_taken (operands_of form) inst (bare inst.row)
 
 -- the number that the operands of a form say: a target says none
 abbrev number_said : Form → ℕ → ℕ
@@ -55,11 +49,7 @@ number_said _ number = number
 
 -- that number is what is read
 number_read : (form : Form) (inst : Inst) → FitsWidths (widths_of form) inst → (read_by form inst).imm ≡ number_said form inst.imm
-number_read SignedImmediate inst fits = half_back inst.imm fits.imm
-number_read Memory inst fits = half_back inst.imm fits.imm
-number_read CacheOperation inst fits = half_back inst.imm fits.imm
-number_read CoprocessorMemory inst fits = half_back inst.imm fits.imm
-number_read TrapImmediate inst fits = half_back inst.imm fits.imm
+number_read Target inst fits = refl
 number_read form inst fits = omega arith
 
 -- the instruction, but for the number of a target
@@ -81,22 +71,32 @@ branch_back read inst at place target same lt here is =
     ap (λ a. branch_to read a target) here ∙ ap (word_with read) (distance_found at target inst.imm (record { small = lt; reaches = sym is }))
     ∙ ap (λ (r : Inst). word_of (record r { imm = inst.imm })) same
 
--- what the operands of a form put is the word
+-- what the operands of a form say, where this instruction was read
+abbrev pub said : Form → Inst → Inst → ℕ → Item
+said Target read inst at = JumpTo read (Address (jump_target at inst.imm))
+said CompareBranch read inst at = BranchTo read (Address (branch_target at inst.imm))
+said ZeroBranch read inst at = BranchTo read (Address (branch_target at inst.imm))
+said _ read inst at = Plain read
+
+item_said : (form : Form) (read inst : Inst) (at : ℕ) → FitsWidths (widths_of form) inst → item_by (operands_of form) read (target_placed (places_of inst at (operands_of form))) ≡ Some (said form read inst at)
+item_said Target read inst at fits = ap (λ t. option_map (JumpTo read) (option_map Address t)) (target_back (jump_target at inst.imm) (jump_target_below at inst.imm fits.imm))
+item_said CompareBranch read inst at fits = ap (λ t. option_map (BranchTo read) (option_map Address t)) (target_back (branch_target at inst.imm) (branch_target_below at inst.imm))
+item_said ZeroBranch read inst at fits = ap (λ t. option_map (BranchTo read) (option_map Address t)) (target_back (branch_target at inst.imm) (branch_target_below at inst.imm))
+item_said form read inst at fits = refl
+
+-- and that puts the word
 word_back : (form : Form) (inst : Inst) (at : ℕ) (labels : List (List ℕ × ℕ)) → FitsWidths (widths_of form) inst → at < 2 ^ 32 →
-    coded_at labels at (item_by (operands_of form) (read_by form inst) (target_placed (places_of inst at (operands_of form)))) ≡ word_of inst
+    coded_at labels at (said form (read_by form inst) inst at) ≡ word_of inst
 unfolding coded_at
 word_back Target inst at labels fits within =
     let here : at % 2 ^ 32 ≡ at = omega arith in
-    jump_back (read_by Target inst) inst at (at % 2 ^ 32) (natural (number_value (hex_text (jump_target at inst.imm)))) (read_fields Target inst fits) fits.imm here
-    (target_back (jump_target at inst.imm) (jump_target_below at inst.imm fits.imm))
+    jump_back (read_by Target inst) inst at (at % 2 ^ 32) (jump_target at inst.imm) (read_fields Target inst fits) fits.imm here refl
 word_back CompareBranch inst at labels fits within =
     let here : at % 2 ^ 32 ≡ at = omega arith in
-    branch_back (read_by CompareBranch inst) inst at (at % 2 ^ 32) (natural (number_value (hex_text (branch_target at inst.imm)))) (read_fields CompareBranch inst fits) fits.imm here
-    (target_back (branch_target at inst.imm) (branch_target_below at inst.imm))
+    branch_back (read_by CompareBranch inst) inst at (at % 2 ^ 32) (branch_target at inst.imm) (read_fields CompareBranch inst fits) fits.imm here refl
 word_back ZeroBranch inst at labels fits within =
     let here : at % 2 ^ 32 ≡ at = omega arith in
-    branch_back (read_by ZeroBranch inst) inst at (at % 2 ^ 32) (natural (number_value (hex_text (branch_target at inst.imm)))) (read_fields ZeroBranch inst fits) fits.imm here
-    (target_back (branch_target at inst.imm) (branch_target_below at inst.imm))
+    branch_back (read_by ZeroBranch inst) inst at (at % 2 ^ 32) (branch_target at inst.imm) (read_fields ZeroBranch inst fits) fits.imm here refl
 word_back form inst at labels fits within = ap word_of (read_fields form inst fits)
 
 -- the line that was printed of an instruction, but for the word 0
@@ -111,15 +111,17 @@ form_read inst at is within =
     let fit : AllFit inst operands = fit_form form inst is.fields in
     let expected = expected_places inst at operands in
     let cut = cut_line (piece Name name) inst at operands (row_piece inst.row is.row) fit (few_operands form) in
+    let item : Item = said form (read_by form inst) inst at in
+    let puts : item_placed inst.row places ≡ Some item =
+    ap (option_and_then (λ read. item_by operands read (target_placed places))) (with_operands_back inst at operands (bare inst.row) fit)
+    ∙ item_said form (read_by form inst) inst at is.fields in
     record {
-      item = item_placed inst.row places;
+      item = item;
       is_read =
           ap (λ r. read_cut line r (parts_of line (tokens_of line).tokens)) cut.0
-          ∙ cut_spelled line name (Instruction inst.row) places (item_placed inst.row places) (tokens_of line).tokens cut.1 (name_read inst.row is.row) (sym expected) (agree_places inst at operands fit)
-          (colon_places inst at operands) (λ tokens spells. item_of_spelled line inst.row places tokens spells expected);
-      is_word = λ labels.
-          ap (λ read. coded_at labels at (item_by (operands_of form) (fitted (widths_of form) read) (target_placed places))) (with_operands_back inst at operands (bare inst.row) fit)
-          ∙ word_back form inst at labels is.fields within;
+          ∙ cut_spelled line name (Instruction inst.row) places item (tokens_of line).tokens cut.1 (name_read inst.row is.row) (sym expected) (agree_places inst at operands fit)
+          (colon_places inst at operands) (λ tokens spells. item_of_spelled line inst.row places tokens spells expected ∙ puts);
+      is_word = λ labels. word_back form inst at labels is.fields within;
     }
 
 -- and that of the word 0

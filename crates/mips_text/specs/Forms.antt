@@ -1,7 +1,7 @@
 -- The operands of each form, the tokens that stand for them, and the statements of a source with theirs.
 -- Source: MIPS R4000 Microprocessor User's Manual, 2nd edition (Heinrich), appendix A, the format line of each instruction;
 -- the further statements and the directives are a part of those of the MIPS assembler.
-use Rattle.std.specs.Prelude.{ℕ, ℤ, pos, negsuc, int_le, ◌-◌, ◌^◌, ◌==◌, Bool, true, false, ◌&&◌, if◌then◌else◌, List, [], ◌∷◌, ◌++◌, slice_range, slice_index, is_some, is_none, Option, Some, codes, bytes_eq, position, option_map}
+use Rattle.std.specs.Prelude.{ℕ, ℤ, pos, negsuc, int_le, ◌-◌, ◌^◌, ◌==◌, Bool, true, false, ◌&&◌, if◌then◌else◌, List, [], ◌∷◌, ◌++◌, slice_range, slice_index, is_some, is_none, Option, Some, None, codes, bytes_eq, position, option_map}
 use Rattle.mips3_table.specs.declared.operand_forms.Form.{Form}
 use Rattle.mips3_table.specs.declared.operand_forms.Form.TheVariants.{Target, CompareBranch, ZeroBranch, SignedImmediate, UnsignedImmediate, UpperImmediate, Memory, CacheOperation, CoprocessorNumber, CoprocessorMemory, Shift, ShiftByRegister, Source, JumpAndLinkRegister, Code, NoOperands, Destination, TwoSources, ThreeRegisters, TrapRegisters, TrapImmediate, Cp0Move}
 use Rattle.mips3_table.specs.Rows.{row_at}
@@ -16,9 +16,9 @@ use Rattle.mips_text.specs.declared.operand.Field.TheVariants.{Rs, Rt, Rd, Sa, I
 use Rattle.mips_text.specs.declared.operand.Operand.{Operand}
 use Rattle.mips_text.specs.declared.operand.Operand.TheVariants.{Register, Cp0Register, Decimal, Hexadecimal, Signed, Based, BranchTarget, JumpTarget}
 use Rattle.mips_text.specs.declared.operand.Range.{Range}
-use Rattle.mips_text.specs.declared.operand.Range.TheVariants.{Unsigned, WithSign, EitherSign, AnyNumber}
+use Rattle.mips_text.specs.declared.operand.Range.TheVariants.{Unsigned, WithSign, EitherSign}
 use Rattle.mips_text.specs.declared.operand.Expected.{Expected}
-use Rattle.mips_text.specs.declared.operand.Expected.TheVariants.{ARegister, ACp0Register, ANumber, ATarget, ALabel, AText, AMark}
+use Rattle.mips_text.specs.declared.operand.Expected.TheVariants.{ARegister, ACp0Register, ANumber, AnAlignment, ATarget, ALabel, AText, AMark}
 use Rattle.mips_text.specs.declared.statement.Statement.{Statement}
 use Rattle.mips_text.specs.declared.statement.Statement.TheVariants.{Instruction, Li, La, Move, Nop, Branch, Org, Word, Byte, Space, Align, Ascii}
 
@@ -83,7 +83,7 @@ shape_of Org = Tokens (ANumber Imm (Unsigned 32) ∷ [])
 shape_of Word = Numbers (EitherSign 32)
 shape_of Byte = Numbers (EitherSign 8)
 shape_of Space = Tokens (ANumber Imm (Unsigned 32) ∷ [])
-shape_of Align = Tokens (ANumber Imm AnyNumber ∷ [])
+shape_of Align = Tokens (AnAlignment ∷ [])
 shape_of Ascii = Tokens (AText ∷ [])
 
 -- the directive or the instruction of a name, None where it has neither
@@ -122,6 +122,7 @@ abbrev pub has_kind : Expected → TokenKind → List ℕ → Bool
 has_kind (ARegister field) Name text = true
 has_kind (ACp0Register field) Name text = true
 has_kind (ANumber field range) Number text = true
+has_kind AnAlignment Number text = true
 has_kind ATarget Name text = true
 has_kind ATarget Number text = true
 has_kind ALabel Name text = true
@@ -134,7 +135,21 @@ abbrev pub in_range : Range → ℤ → Bool
 in_range (Unsigned width) n = int_le (pos 0) n && int_le n (pos (2 ^ width - 1))
 in_range (WithSign width) n = int_le (negsuc (2 ^ (width - 1) - 1)) n && int_le n (pos (2 ^ (width - 1) - 1))
 in_range (EitherSign width) n = int_le (negsuc (2 ^ (width - 1) - 1)) n && int_le n (pos (2 ^ width - 1))
-in_range AnyNumber n = true
+
+-- how many bits the numbers of a range have
+abbrev pub width_of : Range → ℕ
+width_of (Unsigned width) = width
+width_of (WithSign width) = width
+width_of (EitherSign width) = width
+
+-- a number as so many bits, a negative one in two's complement
+abbrev pub in_bits : ℕ → ℤ → ℕ
+in_bits width (pos n) = n
+in_bits width (negsuc n) = 2 ^ width - 1 - n
+
+-- the bits of a number that lies in a range
+abbrev pub bits_in : Range → ℤ → Option ℕ
+bits_in range n = if in_range range n then Some (in_bits (width_of range) n) else None
 
 -- a Number lies in its range; the address of a target is one of 32 bits
 abbrev pub has_range : Expected → TokenKind → List ℕ → Bool

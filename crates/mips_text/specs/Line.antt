@@ -3,11 +3,9 @@
 -- Source: the assembler language of this project, whose statements are the instruction formats of the MIPS R4000
 -- Microprocessor User's Manual, 2nd edition (Heinrich), appendix A, with a part of the further statements and of the
 -- directives of the MIPS assembler.
-use Rattle.std.specs.Prelude.{ℕ, ℤ, pos, negsuc, zero, suc, ◌-◌, ◌/◌, ◌%◌, ◌^◌, ◌==◌, nat_lt, nat_le, Bool, true, false, not, ◌&&◌, ◌||◌, if◌then◌else◌, List, [], ◌∷◌, length, slice_index, slice_get, Option, Some, None, unwrap_or}
+use Rattle.std.specs.Prelude.{ℕ, ℤ, pos, negsuc, zero, suc, ◌/◌, ◌==◌, nat_lt, nat_le, Bool, true, false, not, ◌&&◌, ◌||◌, if◌then◌else◌, List, [], ◌∷◌, length, slice_index, slice_get, Option, Some, None, option_map, option_and_then}
 use Rattle.mips3_table.specs.declared.instruction.Inst.{Inst}
-use Rattle.mips3_table.specs.declared.operand_forms.Widths.{Widths}
 use Rattle.mips3_table.specs.Rows.{row_at}
-use Rattle.mips3_table.specs.Instructions.{widths_at}
 use Rattle.mips_text.specs.declared.reason.AsmWhy.{AsmWhy}
 use Rattle.mips_text.specs.declared.reason.AsmWhy.TheVariants as why
 use Rattle.mips_text.specs.declared.token.Token.{Token}
@@ -15,7 +13,7 @@ use Rattle.mips_text.specs.declared.token.TokenKind.{TokenKind}
 use Rattle.mips_text.specs.declared.token.TokenKind.TheVariants.{Name, Number, Mark}
 use Rattle.mips_text.specs.Tokens.{tokens_of}
 use Rattle.mips_text.specs.Names.{register_of, cp0_register_of}
-use Rattle.mips_text.specs.Values.{number_of, bounded, bytes_of_text}
+use Rattle.mips_text.specs.Values.{number_of, bytes_of_text}
 use Rattle.mips_text.specs.declared.item.Target.{Target}
 use Rattle.mips_text.specs.declared.item.Target.TheVariants.{Address, Label}
 use Rattle.mips_text.specs.declared.item.Item.{Item}
@@ -24,13 +22,14 @@ use Rattle.mips_text.specs.declared.item.Line.{Line}
 use Rattle.mips_text.specs.declared.operand.Field.{Field}
 use Rattle.mips_text.specs.declared.operand.Field.TheVariants.{Rs, Rt, Rd, Sa, Imm}
 use Rattle.mips_text.specs.declared.operand.Range.{Range}
+use Rattle.mips_text.specs.declared.operand.Range.TheVariants.{Unsigned, EitherSign}
 use Rattle.mips_text.specs.declared.operand.Expected.{Expected}
 use Rattle.mips_text.specs.declared.operand.Expected.TheVariants.{ARegister, ACp0Register, ANumber, ATarget, AMark}
 use Rattle.mips_text.specs.declared.statement.Statement.{Statement}
 use Rattle.mips_text.specs.declared.statement.Statement.TheVariants.{Instruction, Li, La, Move, Nop, Branch, Org, Word, Byte, Space, Align, Ascii}
 use Rattle.mips_text.specs.declared.operand.Operand.{Operand}
 use Rattle.mips_text.specs.declared.operand.Operand.TheVariants.{BranchTarget, JumpTarget}
-use Rattle.mips_text.specs.Forms.{Shape, Tokens, Numbers, operands_of, separated, shape_of, statement_named, token_text, names_no_register, has_kind, has_range}
+use Rattle.mips_text.specs.Forms.{Shape, Tokens, Numbers, operands_of, separated, shape_of, statement_named, token_text, names_no_register, has_kind, has_range, bits_in}
 
 -- A line as it is read.
 pub data Reading : Type 0 where
@@ -80,61 +79,29 @@ operands_fault line shape tokens =
     else None
 
 -- WHAT THE OPERANDS STAND FOR
+-- Each is None where the tokens are not those that are expected.
 
--- a number that is not negative
-abbrev pub natural : ℤ → ℕ
-natural (pos n) = n
-natural (negsuc n) = 0
+-- an instruction with another value in a field
+abbrev pub with_field : Field → Inst → ℕ → Inst
+with_field Rs inst value = record inst { rs = value }
+with_field Rt inst value = record inst { rt = value }
+with_field Rd inst value = record inst { rd = value }
+with_field Sa inst value = record inst { sa = value }
+with_field Imm inst value = record inst { imm = value }
 
--- the number of a text that lies in a field; one of 2 ^ 32 or more lies in none, and counts as 0 here
-abbrev pub number_value : List ℕ → ℤ
-number_value text = unwrap_or (bounded (number_of text)) (pos 0)
-
--- so many low bits of a number in two's complement
-abbrev pub in_bits : ℕ → ℤ → ℕ
-in_bits width (pos n) = n % 2 ^ width
-in_bits width (negsuc n) = 2 ^ width - 1 - n % 2 ^ width
-
--- the register that a text names
-abbrev pub register_value : List ℕ → ℕ
-register_value text = unwrap_or (register_of text) 0 % 2 ^ 5
-
--- the register of coprocessor 0 that a text names
-abbrev pub cp0_register_value : List ℕ → ℕ
-cp0_register_value text = unwrap_or (cp0_register_of text) 0 % 2 ^ 5
-
--- an instruction with another value in a field: the registers and sa have 5 bits
-abbrev pub with_field : Field → ℕ → Inst → Inst
-with_field Rs value inst = record inst { rs = value % 2 ^ 5 }
-with_field Rt value inst = record inst { rt = value % 2 ^ 5 }
-with_field Rd value inst = record inst { rd = value % 2 ^ 5 }
-with_field Sa value inst = record inst { sa = value % 2 ^ 5 }
-with_field Imm value inst = record inst { imm = value }
-
--- an instruction with the field that a token gives. A target gives no field here.
-abbrev pub with_operand : Expected → List ℕ → Inst → Inst
-with_operand (ARegister field) text inst = with_field field (register_value text) inst
-with_operand (ACp0Register field) text inst = with_field field (cp0_register_value text) inst
-with_operand (ANumber field range) text inst = with_field field (in_bits 32 (number_value text)) inst
-with_operand expected text inst = inst
+-- an instruction with the field that a token's text gives. A target, a label, a text and a mark give none.
+abbrev pub with_operand : Expected → List ℕ → Inst → Option Inst
+with_operand (ARegister field) text inst = option_map (with_field field inst) (register_of text)
+with_operand (ACp0Register field) text inst = option_map (with_field field inst) (cp0_register_of text)
+with_operand (ANumber field range) text inst = option_map (with_field field inst) (bits_in range (number_of text))
+with_operand expected text inst = Some inst
 
 -- an instruction with the fields that the tokens give, one after another
-abbrev pub with_operands : List ℕ → List Expected → List Token → Inst → Inst
-with_operands line [] tokens inst = inst
-with_operands line (one ∷ expected) [] inst = inst
+abbrev pub with_operands : List ℕ → List Expected → List Token → Inst → Option Inst
+with_operands line [] tokens inst = Some inst
+with_operands line (one ∷ expected) [] inst = None
 with_operands line (one ∷ expected) (token ∷ tokens) inst =
-    with_operands line expected tokens (with_operand one (token_text line token) inst)
-
--- an instruction whose fields are the low bits that the widths leave
-abbrev pub fitted : Widths → Inst → Inst
-fitted w inst = record {
-  row = inst.row;
-  rs = inst.rs % 2 ^ w.rs;
-  rt = inst.rt % 2 ^ w.rt;
-  rd = inst.rd % 2 ^ w.rd;
-  sa = inst.sa % 2 ^ w.sa;
-  imm = inst.imm % 2 ^ w.number;
-}
+    option_and_then (with_operands line expected tokens) (with_operand one (token_text line token) inst)
 
 -- the instruction of a row with every field 0
 abbrev pub bare : ℕ → Inst
@@ -154,27 +121,30 @@ abbrev pub or_row : ℕ
 or_row = 91
 
 -- the instruction of a row with the operands of a statement
-abbrev pub inst_of : List ℕ → ℕ → Statement → List Token → Inst
+abbrev pub inst_of : List ℕ → ℕ → Statement → List Token → Option Inst
 inst_of line row statement tokens =
-    fitted (widths_at row) (with_operands line (tokens_expected (shape_of statement) (length tokens)) tokens (bare row))
-
--- the text of a token, if there is one
-abbrev pub text_found : List ℕ → Option Token → List ℕ
-text_found line (Some token) = token_text line token
-text_found line None = []
+    with_operands line (tokens_expected (shape_of statement) (length tokens)) tokens (bare row)
 
 -- the text of the token at an index
-abbrev pub text_at : List ℕ → List Token → ℕ → List ℕ
-text_at line tokens at = text_found line (slice_get tokens at)
+abbrev pub text_at : List ℕ → List Token → ℕ → Option (List ℕ)
+text_at line tokens at = option_map (token_text line) (slice_get tokens at)
+
+-- the register that the token at an index names
+abbrev pub register_at : List ℕ → List Token → ℕ → Option ℕ
+register_at line tokens at = option_and_then register_of (text_at line tokens at)
+
+-- the number of a range that the token at an index is, as bits
+abbrev pub number_at : Range → List ℕ → List Token → ℕ → Option ℕ
+number_at range line tokens at = option_and_then (λ text. bits_in range (number_of text)) (text_at line tokens at)
 
 -- the target that a token stands for: a Name is a label, a Number an address
-abbrev pub target_of : TokenKind → List ℕ → Target
-target_of Name text = Label text
-target_of kind text = Address (natural (number_value text))
+abbrev pub target_of : TokenKind → List ℕ → Option Target
+target_of Name text = Some (Label text)
+target_of kind text = option_map Address (bits_in (Unsigned 32) (number_of text))
 
 -- the target that a token gives where one is expected, else the one that later tokens give
 abbrev pub target_or : Expected → TokenKind → List ℕ → Option Target → Option Target
-target_or ATarget kind text later = Some (target_of kind text)
+target_or ATarget kind text later = target_of kind text
 target_or expected kind text later = later
 
 -- the target that tokens give, if one is expected
@@ -184,15 +154,21 @@ target_in line (one ∷ expected) [] = None
 target_in line (one ∷ expected) (token ∷ tokens) =
     target_or one token.kind (token_text line token) (target_in line expected tokens)
 
--- a number before others, where the token is one
-abbrev pub with_number : ℕ → TokenKind → List ℕ → List ℕ → List ℕ
-with_number width Number text numbers = in_bits width (number_value text) ∷ numbers
-with_number width kind text numbers = numbers
+-- a number before others, where all are there
+abbrev pub with_number : Option ℕ → Option (List ℕ) → Option (List ℕ)
+with_number (Some number) (Some numbers) = Some (number ∷ numbers)
+with_number (Some number) None = None
+with_number None numbers = None
 
--- the numbers among these tokens, each as so many bits
-abbrev pub numbers_of : ℕ → List ℕ → List Token → List ℕ
-numbers_of width line [] = []
-numbers_of width line (token ∷ tokens) = with_number width token.kind (token_text line token) (numbers_of width line tokens)
+-- a token's number of a range before others, where the token is a Number; a comma between them is passed over
+abbrev pub with_token : Range → TokenKind → List ℕ → Option (List ℕ) → Option (List ℕ)
+with_token range Number text numbers = with_number (bits_in range (number_of text)) numbers
+with_token range kind text numbers = numbers
+
+-- the numbers of a range among these tokens
+abbrev pub numbers_of : Range → List ℕ → List Token → Option (List ℕ)
+numbers_of range line [] = Some []
+numbers_of range line (token ∷ tokens) = with_token range token.kind (token_text line token) (numbers_of range line tokens)
 
 -- an alignment is to a power of two from 0 to 12
 abbrev pub alignment_of : ℤ → Option ℕ
@@ -200,32 +176,36 @@ alignment_of (pos n) = if nat_le n 12 then Some n else None
 alignment_of (negsuc n) = None
 
 -- an instruction, which goes to the target where one of its operands is a target
-abbrev pub item_by : List Operand → Inst → Option Target → Item
-item_by [] inst target = Plain inst
-item_by (BranchTarget ∷ more) inst (Some target) = BranchTo inst target
-item_by (JumpTarget ∷ more) inst (Some target) = JumpTo inst target
+abbrev pub item_by : List Operand → Inst → Option Target → Option Item
+item_by [] inst target = Some (Plain inst)
+item_by (BranchTarget ∷ more) inst target = option_map (BranchTo inst) target
+item_by (JumpTarget ∷ more) inst target = option_map (JumpTo inst) target
 item_by (one ∷ more) inst target = item_by more inst target
 
 -- the instruction of a row with its operands
-abbrev pub item_of_row : List ℕ → ℕ → List Token → Item
+abbrev pub item_of_row : List ℕ → ℕ → List Token → Option Item
 item_of_row line row tokens =
-    item_by (operands_of (row_at row).form) (inst_of line row (Instruction row) tokens)
-    (target_in line (separated (operands_of (row_at row).form)) tokens)
+    option_and_then
+    (λ inst. item_by (operands_of (row_at row).form) inst (target_in line (separated (operands_of (row_at row).form)) tokens))
+    (inst_of line row (Instruction row) tokens)
 
--- What a statement puts, by operands that have its shape.
-unfoldable pub item_of : List ℕ → Statement → List Token → Item
+-- What a statement puts, by its operands.
+unfoldable pub item_of : List ℕ → Statement → List Token → Option Item
 item_of line (Instruction row) tokens = item_of_row line row tokens
-item_of line Li tokens = LoadNumber (register_value (text_at line tokens 0)) (in_bits 32 (number_value (text_at line tokens 2)))
-item_of line La tokens = LoadLabel (register_value (text_at line tokens 0)) (text_at line tokens 2)
-item_of line Move tokens = Plain (inst_of line or_row Move tokens)
-item_of line Nop tokens = Words (0 ∷ [])
+item_of line Li tokens =
+    option_and_then (λ register. option_map (LoadNumber register) (number_at (EitherSign 32) line tokens 2))
+    (register_at line tokens 0)
+item_of line La tokens =
+    option_and_then (λ register. option_map (LoadLabel register) (text_at line tokens 2)) (register_at line tokens 0)
+item_of line Move tokens = option_map Plain (inst_of line or_row Move tokens)
+item_of line Nop tokens = Some (Words (0 ∷ []))
 item_of line Branch tokens = item_by (BranchTarget ∷ []) (bare beq_row) (target_in line (ATarget ∷ []) tokens)
-item_of line Org tokens = Origin (natural (number_value (text_at line tokens 0)))
-item_of line Word tokens = Words (numbers_of 32 line tokens)
-item_of line Byte tokens = Bytes (numbers_of 8 line tokens)
-item_of line Space tokens = Zeros (natural (number_value (text_at line tokens 0)))
-item_of line Align tokens = Aligned (alignment_of (number_of (text_at line tokens 0)))
-item_of line Ascii tokens = Bytes (unwrap_or (bytes_of_text (text_at line tokens 0)) [])
+item_of line Org tokens = option_map Origin (number_at (Unsigned 32) line tokens 0)
+item_of line Word tokens = option_map Words (numbers_of (EitherSign 32) line tokens)
+item_of line Byte tokens = option_map Bytes (numbers_of (EitherSign 8) line tokens)
+item_of line Space tokens = option_map Zeros (number_at (Unsigned 32) line tokens 0)
+item_of line Align tokens = option_map (λ text. Aligned (alignment_of (number_of text))) (text_at line tokens 0)
+item_of line Ascii tokens = option_map Bytes (option_and_then bytes_of_text (text_at line tokens 0))
 
 -- THE LINE
 
@@ -262,10 +242,15 @@ is_too_long None = false
 abbrev pub with_label : Option (List ℕ) → Option Item → Reading
 with_label label item = if is_too_long label then Refused why.Range else Read (record { label = label; item = item })
 
+-- a statement that puts this; tokens without a fault always are the operands of one
+abbrev pub with_item : Option (List ℕ) → Option Item → Reading
+with_item label (Some item) = with_label label (Some item)
+with_item label None = Refused why.Operand
+
 -- a statement by the fault of its operands
 abbrev pub statement_by_fault : List ℕ → Option (List ℕ) → Statement → List Token → Option AsmWhy → Reading
 statement_by_fault line label statement tokens (Some reason) = Refused reason
-statement_by_fault line label statement tokens None = with_label label (Some (item_of line statement tokens))
+statement_by_fault line label statement tokens None = with_item label (item_of line statement tokens)
 
 -- a statement by its name
 abbrev pub statement_by_name : List ℕ → Option (List ℕ) → Option Statement → List Token → Reading

@@ -110,9 +110,11 @@ impl<'a> Model for Bytes<'a> {
 
     ghost Value = { List ℕ };
 
-    ghost use Rattle.mips_text.specs.BytesOf.{bytes_in};
+    ghost use Rattle.mips_text.specs.BytesOf.{IsReadable, bytes_in};
 
     ghost view = { λ bytes. bytes_in bytes.source };
+
+    ghost invariant = { λ bytes. IsReadable bytes.source };
 }
 
 impl<'a> Bytes<'a> {
@@ -123,14 +125,21 @@ impl<'a> Bytes<'a> {
     pub fn of_numbers(list: ArrayVec<u8, 64>) -> Self
         ensures { result ≡ list.items }
     {
-        Bytes { source: Source::Numbers(list) }
+        Bytes {
+            source: Source::Numbers(list),
+        }
     }
 
-    /// The bytes of a text in quotes.
-    pub fn of_text(text: &'a [u8]) -> Self
-        ensures { result ≡ unwrap_or (bytes_of_text text.now) [] }
+    /// The bytes of a text in quotes; None where a backslash stands before a byte that it does not escape.
+    pub fn of_text(text: &'a [u8]) -> Option<Self>
+        ensures { result ≡ bytes_of_text text.now }
     {
-        Bytes { source: Source::Text(text) }
+        if text_size(text).is_none() {
+            return None;
+        }
+        Some(Bytes {
+            source: Source::Text(text),
+        })
     }
 
     /// How many they are.
@@ -139,7 +148,10 @@ impl<'a> Bytes<'a> {
     {
         match &self.source {
             Source::Numbers(list) => list.len(),
-            Source::Text(text) => text_size(text).unwrap_or(0),
+            Source::Text(text) => match text_size(text) {
+                Some(size) => size,
+                None => unreachable!(),
+            },
         }
     }
 
@@ -157,12 +169,7 @@ impl<'a> Bytes<'a> {
     {
         match &self.source {
             Source::Numbers(list) => out.extend_from_slice(list),
-            Source::Text(text) => {
-                if text_size(text).is_none() {
-                    return Ok(());
-                }
-                push_text(text, out)
-            }
+            Source::Text(text) => push_text(text, out),
         }
     }
 }

@@ -40,7 +40,6 @@ pub enum Range {
     WithSign(u8),
     /// So many bits, with a sign or without.
     EitherSign(u8),
-    AnyNumber,
 }
 
 /// A token that a statement expects, and the field that it gives. A default stands here for `ArrayVec::new`.
@@ -52,6 +51,8 @@ pub enum Expected {
     ACp0Register(Field),
     /// A Number of this range.
     ANumber(Field, Range),
+    /// A Number of any size, which is an alignment.
+    AnAlignment,
     /// A Name, which is a label, or a Number, which is an address.
     #[default]
     ATarget,

@@ -10,9 +10,7 @@ ghost use Rattle.mips_text.specs.ReadBack.{ReadsAs, word_kept};
 
 use crate::forms::operands_of;
 use crate::operand::{Field, Operand};
-use crate::writing::{
-    put_based, put_cp0_register, put_hexadecimal, put_register, put_signed,
-};
+use crate::writing::{put_based, put_cp0_register, put_hexadecimal, put_register, put_signed};
 use mips3_code::{branch_target, decode, encode, jump_target};
 use mips3_table::{Inst, form_of, name_of};
 use r4_words::{Line, put_dec, put_text};
@@ -64,7 +62,7 @@ fn put_statement(inst: &Inst, at: u32, out: &mut Line)
 fn put_row(inst: &Inst, at: u32, out: &mut Line)
     requires inst { IsInst inst.now }
     requires room { array_vec_len out.old ≤ 0 }
-    ensures { out.new.items ≡ out.old.items ++ by_form (row_at inst.now.row).name (row_at inst.now.row).form inst.now at }
+    ensures { let row = row_at inst.now.row in out.new.items ≡ out.old.items ++ by_form row.name row.form inst.now at }
 {
     put_name(inst.row, out);
     put_operands(operands_of(form_of(inst.row)), inst, at, out);

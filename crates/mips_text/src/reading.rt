@@ -1,6 +1,6 @@
 //! What a name or a number of a source stands for.
 
-ghost use Rattle.std.specs.Prelude.{◌≡◌, ◌<◌, ◌≤◌, ◌+◌, ◌*◌, ◌^◌, length, bytes_eq, position};
+ghost use Rattle.std.specs.Prelude.{◌≡◌, ◌<◌, ◌≤◌, ◌+◌, ◌*◌, ◌^◌, length, bytes_eq, position, IfSome};
 ghost use Rattle.r4_words.specs.Texts.{number_after};
 ghost use Rattle.mips_text.specs.Forms as forms;
 ghost use Rattle.mips_text.specs.Names as names;
@@ -11,14 +11,15 @@ use crate::names::{cp0_name, register_name};
 use r4_words::{read_dec, value_of_digit};
 
 /// Whether a text is this name.
-fn reads(text: &[u8], name: &str) -> bool
+pub fn reads(text: &[u8], name: &str) -> bool
     ensures { result ≡ bytes_eq text.now name.now }
 {
     text == name.as_bytes()
 }
 
 fn named_register(text: &[u8]) -> Option<u8>
-    ensures { result ≡ position (bytes_eq text.now) names.register_names }
+    ensures value { result ≡ position (bytes_eq text.now) names.register_names }
+    ensures small { IfSome result (λ register. register < 32) }
 {
     for register in 0..32 {
         let name = register_name(register);
@@ -31,7 +32,8 @@ fn named_register(text: &[u8]) -> Option<u8>
 }
 
 fn named_cp0_register(text: &[u8]) -> Option<u8>
-    ensures { result ≡ position (bytes_eq text.now) names.cp0_names }
+    ensures value { result ≡ position (bytes_eq text.now) names.cp0_names }
+    ensures small { IfSome result (λ register. register < 32) }
 {
     for register in 0..32 {
         let name = cp0_name(register);
@@ -45,7 +47,8 @@ fn named_cp0_register(text: &[u8]) -> Option<u8>
 
 /// The register that a text names by this byte and its number.
 fn numbered(first: u8, text: &[u8]) -> Option<u8>
-    ensures { result ≡ names.numbered first text.now }
+    ensures value { result ≡ names.numbered first text.now }
+    ensures small { IfSome result (λ register. register < 32) }
 {
     if byte_at(text, 0) != first {
         return None;
@@ -59,7 +62,8 @@ fn numbered(first: u8, text: &[u8]) -> Option<u8>
 /// The general register that a name stands for: one of `zero` to `ra`, `fp` for `s8`, or `$0` to `$31`.
 #[tactic(auto, unfolding(crate::specs::Names::register_of))]
 pub fn register_of(text: &[u8]) -> Option<u8>
-    ensures { result ≡ names.register_of text.now }
+    ensures value { result ≡ names.register_of text.now }
+    ensures small { IfSome result (λ register. register < 32) }
 {
     let is_fp = reads(text, "fp");
     if is_fp {
@@ -74,7 +78,8 @@ pub fn register_of(text: &[u8]) -> Option<u8>
 /// The register of coprocessor 0 that a name stands for: one of `Index` to `ErrorEPC`, or `c0` to `c31`.
 #[tactic(auto, unfolding(crate::specs::Names::cp0_register_of))]
 pub fn cp0_register_of(text: &[u8]) -> Option<u8>
-    ensures { result ≡ names.cp0_register_of text.now }
+    ensures value { result ≡ names.cp0_register_of text.now }
+    ensures small { IfSome result (λ register. register < 32) }
 {
     match named_cp0_register(text) {
         Some(register) => Some(register),
