@@ -15,7 +15,8 @@ use flat_ram::{Ram, physical};
 
 fn store_in_range(bytes: &[u8], segment: &Segment, ram: &mut Ram)
     requires { rules.is_in_range (length bytes.now) segment.now ≡ true }
-    ensures { ram.new ≡ put_bytes ram.old (unmapped.physical segment.now.address) (law.memory_of bytes.now segment.now) }
+    ensures { ram.new ≡ put_bytes ram.old (unmapped.physical segment.now.address)
+        (law.memory_of bytes.now segment.now) }
 {
     let file = part(bytes, segment.offset as usize, segment.file_size as usize);
     ram.set_padded(

@@ -78,8 +78,10 @@ impl<'a> Image<'a> {
     /// segment's address on they end below 2 ^ 32, so no address of them wraps.
     pub fn file_bytes(&self, index: u32) -> &'a [u8]
         requires { index < header.count_of self.now }
-        ensures bytes { result.now ≡ loading.file_bytes_of self.now (header.segment_at self.now (header.table_of self.now + 32 * index)) }
-        ensures ends { (header.segment_at self.now (header.table_of self.now + 32 * index)).address + length result.now ≤ 2 ^ 32 }
+        ensures bytes { result.now ≡ loading.file_bytes_of self.now
+            (header.segment_at self.now (header.table_of self.now + 32 * index)) }
+        ensures ends { (header.segment_at self.now (header.table_of self.now + 32 * index)).address + length result.now
+            ≤ 2 ^ 32 }
     {
         file_bytes(self.bytes, self.table as usize + 32 * index as usize)
     }
@@ -113,8 +115,8 @@ fn check(bytes: &[u8]) -> Result<(), ImageFault>
     rules::check_entry(bytes)
 }
 
-#[tactic(auto, using(crate::proofs::Accepted::accepted_length))]
 /// The image of a file's bytes, where they meet all rules, and else the first broken rule.
+#[tactic(auto, using(crate::proofs::Accepted::accepted_length))]
 pub fn read_image<'a>(bytes: &'a [u8]) -> Result<Image<'a>, ImageFault>
     requires { length bytes.now ≤ 4294967294 }
     ensures image { IfOk result (λ image. image ≡ bytes.now) }

@@ -106,8 +106,10 @@ pub fn write_image(
     ensures image { IfOk result (λ image. image.items ≡ law.image_of built_base entry bytes.now) }
 
     // It is read where its bytes have a place in RAM and it can be entered, and it gives the RAM these bytes.
-    ensures accepted { has_place built_base (length bytes.now) ≡ true → can_enter entry ≡ true → IfOk result (λ image. image_fault image.items ≡ None) }
-    ensures loads { IfOk result (λ image. (ram : List ℕ) → loaded image.items ram ≡ put_bytes ram (physical built_base) bytes.now) }
+    ensures accepted { has_place built_base (length bytes.now) ≡ true → can_enter entry ≡ true →
+        IfOk result (λ image. image_fault image.items ≡ None) }
+    ensures loads { IfOk result (λ image. (ram : List ℕ) →
+        loaded image.items ram ≡ put_bytes ram (physical built_base) bytes.now) }
 {
     let image = image_bytes(alloc, built_base, entry, bytes)?;
     Ok(image)
