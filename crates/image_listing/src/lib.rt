@@ -12,6 +12,3 @@ mod lines;
 mod listing;
 
 pub use listing::write_listing;
-
-#[cfg(test)]
-mod tests;

@@ -1,4 +1,5 @@
-//! The arguments of a case: words with blanks between them, and a text in quotes, which comes last.
+//! The arguments of a case: words with blanks between them, and a text in quotes, which comes last. In a text a bar stands
+//! for the end of a line, and a percent sign and two hexadecimal digits for a byte.
 
 use std::alloc::{AllocError, Global};
 
@@ -44,6 +45,41 @@ pub fn bytes_of(alloc: Global, word: &str) -> Result<Vec<u8>, AllocError> {
 fn byte_of(pair: &[u8]) -> u8 {
     let digits = std::str::from_utf8(pair).unwrap_or("");
     u8::from_str_radix(digits, 16).unwrap_or(0)
+}
+
+/// The bytes of a text.
+pub fn text_of(alloc: Global, text: &str) -> Result<Vec<u8>, AllocError> {
+    let mut bytes = Vec::new(alloc);
+    for (index, part) in text.split('%').enumerate() {
+        match part.as_bytes() {
+            [high, low, rest @ ..] if index > 0 => {
+                bytes.push(byte_of(&[*high, *low]))?;
+                add_plain(rest, &mut bytes)?;
+            }
+            plain => add_plain(plain, &mut bytes)?,
+        }
+    }
+    Ok(bytes)
+}
+
+// Appends the bytes of a text without percent signs.
+fn add_plain(text: &[u8], bytes: &mut Vec<u8>) -> Result<(), AllocError> {
+    for byte in text {
+        bytes.push(if *byte == b'|' { b'\n' } else { *byte })?;
+    }
+    Ok(())
+}
+
+/// Appends bytes as a text.
+pub fn put_text(bytes: &[u8], out: &mut String) -> Result<(), AllocError> {
+    for byte in bytes {
+        match byte {
+            b'\n' => out.push_str("|")?,
+            b'|' | b'%' | 0..=0x1f | 0x7f..=0xff => write!(out, "%{byte:02x}")?,
+            _ => out.push(char::from(*byte))?,
+        }
+    }
+    Ok(())
 }
 
 /// Appends bytes in hexadecimal.

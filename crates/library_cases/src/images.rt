@@ -4,26 +4,10 @@
 use crate::arguments::{
     bytes_of, number_at, number_of, put_bytes, put_decimal, word_at, word_number_at,
 };
+use crate::scene::Scene;
 use elf_image::{Image, ImageRule, load, read_image, write_image};
 use flat_ram::Ram;
 use std::alloc::{AllocError, Global};
-
-/// What lasts from a case to the next: a file, and a RAM.
-#[derive(Drop)]
-pub struct Scene {
-    pub file: Vec<u8>,
-    pub ram: Ram,
-}
-
-impl Scene {
-    /// An empty file, and RAM whose bytes are all zero.
-    pub fn new(alloc: Global) -> Result<Scene, AllocError> {
-        Ok(Scene {
-            file: Vec::new(alloc),
-            ram: Ram::new(alloc)?,
-        })
-    }
-}
 
 /// Appends the answer of a verb, and says whether it is one of these.
 pub fn put_answer(
@@ -134,7 +118,8 @@ fn load_file(file: &[u8], ram: &mut Ram) {
     }
 }
 
-fn image_of(file: &[u8]) -> Option<Image<'_>> {
+/// The image in a file.
+pub fn image_of(file: &[u8]) -> Option<Image<'_>> {
     if file.len() > 0xffff_fffe {
         return None;
     }

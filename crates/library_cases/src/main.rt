@@ -5,19 +5,24 @@
 //! same text as `stdin`: a case says in itself what must come, and a further case is a line and no code. An argument that
 //! is none, or a verb that there is not, is answered by a question mark.
 //!
-//! `arguments` reads the parts of a case; `operation_names` has the names of operations; each other module
-//! has the verbs of one library.
+//! `arguments` reads the parts of a case, `scene` is what lasts from a case to the next, and `operation_names` has the names
+//! of operations; each other module has the verbs of one library.
 #![tactic(auto)]
 
 mod arguments;
 mod coding;
 mod images;
+mod listings;
 mod memory;
 mod operation_names;
+mod ports;
 mod rows;
+mod scene;
+mod sources;
+mod tokens;
 mod words;
 
-use images::Scene;
+use scene::Scene;
 use std::alloc::{AllocError, Global};
 use std::io;
 use std::io::{BufRead, BufReader};
@@ -34,7 +39,11 @@ fn put_answer(
         || memory::put_answer(alloc, scene, verb, arguments, out)?
         || images::put_answer(alloc, scene, verb, arguments, out)?
         || rows::put_answer(verb, arguments, out)?
-        || coding::put_answer(verb, arguments, out)?;
+        || coding::put_answer(verb, arguments, out)?
+        || listings::put_answer(alloc, &scene.file, verb, out)?
+        || ports::put_answer(alloc, &mut scene.ports, verb, arguments, out)?
+        || tokens::put_answer(alloc, verb, arguments, out)?
+        || sources::put_answer(alloc, verb, arguments, out)?;
     if is_known { Ok(()) } else { out.push_str("?") }
 }
 

@@ -7,7 +7,7 @@ ghost use Rattle.flat_ram.specs.Map.{ram_size};
 use crate::arguments::{
     bytes_of, number_at, put_bytes, put_decimal, put_hexadecimal, word_at, word_number_at,
 };
-use crate::images::Scene;
+use crate::scene::Scene;
 use flat_ram::{RAM_SIZE, Ram, Spot, half_at, is_unmapped, physical, where_is, word_at as word_in};
 use std::alloc::{AllocError, Global};
 

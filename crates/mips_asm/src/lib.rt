@@ -29,6 +29,3 @@ mod statements;
 pub use built::{AsmFault, Built};
 pub use passes::assemble;
 pub use printed::printed_text_assembles;
-
-#[cfg(test)]
-mod tests;

@@ -37,6 +37,3 @@ pub use reason::AsmWhy;
 pub use statement::Statement;
 pub use texts::{push_text, text_size};
 pub use token::{Token, TokenKind};
-
-#[cfg(test)]
-mod tests;

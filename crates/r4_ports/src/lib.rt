@@ -134,6 +134,3 @@ pub trait Sink {
         ensures err { OnErr result (AppendedPrefix (written self.old) (written self.new) piece.now) }
         ensures cause { HasCause (faults self.old) (faults self.new) result };
 }
-
-#[cfg(test)]
-mod tests;

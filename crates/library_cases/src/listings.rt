@@ -1,0 +1,34 @@
+//! The listing of an image: the verb of image_listing, over the file of the verbs of elf_image.
+
+use crate::arguments::put_text;
+use crate::images::image_of;
+use elf_image::Image;
+use image_listing::write_listing;
+use r4_ports::SureSink;
+use std::alloc::{AllocError, Global};
+
+/// Appends the answer of a verb, and says whether it is one of these.
+pub fn put_answer(
+    alloc: Global,
+    file: &[u8],
+    verb: &str,
+    out: &mut String,
+) -> Result<bool, AllocError> {
+    match verb {
+        "listing" => match image_of(file) {
+            Some(image) => put_listing(alloc, &image, out)?,
+            None => out.push_str("?")?,
+        },
+        _ => return Ok(false),
+    }
+    Ok(true)
+}
+
+// Appends the listing of an image.
+fn put_listing(alloc: Global, image: &Image<'_>, out: &mut String) -> Result<(), AllocError> {
+    let mut sink = SureSink::new(alloc, 1024)?;
+    match write_listing(image, &mut sink) {
+        Ok(()) => put_text(sink.bytes(), out),
+        Err(_) => out.push_str("failed"),
+    }
+}
