@@ -55,7 +55,8 @@ impl Machine {
         ensures machine { self.new ≡ (tick_of self.old).machine }
         ensures answer { result ≡ (tick_of self.old).answer }
         ensures ticks { result ≡ Tick.Ran → self.new.cpu.ticks ≡ self.old.cpu.ticks + 1 }
-        ensures stands_still { (code : ℕ) → self.old.cpu.halt ≡ Some code → (self.new ≡ self.old) × (result ≡ Tick.Halted code) }
+        ensures stands_still { (code : ℕ) → self.old.cpu.halt ≡ Some code →
+            (self.new ≡ self.old) × (result ≡ Tick.Halted code) }
     {
         make_tick(&mut self.cpu, &mut self.bus)
     }

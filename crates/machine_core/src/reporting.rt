@@ -135,7 +135,8 @@ fn write_parts<K: Sink>(view: &View<'_>, out: &mut K, pending: &mut Pending)
 pub fn write_report<K: Sink>(view: &View<'_>, out: &mut K) -> Result<(), SinkFault>
     requires { view.now.status ≤ 7 }
     ensures ok { OnOk result (Appended (K.written out.old) (K.written out.new) (report_of (shown_by view.now))) }
-    ensures err { OnErr result (AppendedPrefix (K.written out.old) (K.written out.new) (report_of (shown_by view.now))) }
+    ensures err { OnErr result
+        (AppendedPrefix (K.written out.old) (K.written out.new) (report_of (shown_by view.now))) }
     ensures cause { HasCause (K.faults out.old) (K.faults out.new) result }
 {
     let mut pending = Pending::new();

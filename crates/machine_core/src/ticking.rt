@@ -41,7 +41,8 @@ pub fn make_tick<M: MemorySystem>(cpu: &mut Cpu, memory: &mut M) -> Tick
     ensures cpu { cpu.new ≡ (law.tick_of M.ask_gives memory.old cpu.old).cpu }
     ensures memory { memory.new ≡ (law.tick_of M.ask_gives memory.old cpu.old).memory }
     ensures ticks { result ≡ Tick.Ran → cpu.new.ticks ≡ cpu.old.ticks + 1 }
-    ensures stands_still { (code : ℕ) → cpu.old.halt ≡ Some code → (cpu.new ≡ cpu.old) × (memory.new ≡ memory.old) × (result ≡ Tick.Halted code) }
+    ensures stands_still { (code : ℕ) → cpu.old.halt ≡ Some code →
+        (cpu.new ≡ cpu.old) × (memory.new ≡ memory.old) × (result ≡ Tick.Halted code) }
 {
     if let Some(code) = cpu.halt {
         return Tick::Halted(code);
