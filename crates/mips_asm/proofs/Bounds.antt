@@ -1,5 +1,5 @@
 -- A number whose magnitude is 2 ^ 32 or more lies in no span.
-use Rattle.std.proofs.Common.{◌≡◌, ◌+◌, ◌-◌, ◌*◌, ◌<◌, ◌≤◌, ◌^◌, ◌&&◌, ℕ, ℤ, pos, negsuc, Bool, true, false, nat_le, int_le, zero, suc, if◌then◌else◌, Option, Some, is_some, ap, sym, ◌∙◌, subst, leb-true, refl, arith, None}
+use Rattle.std.proofs.Common.{◌≡◌, ◌+◌, ◌-◌, ◌<◌, ◌≤◌, ◌^◌, ◌&&◌, ℕ, ℤ, pos, negsuc, Bool, true, false, nat_le, int_le, if◌then◌else◌, Some, is_some, ap, sym, ◌∙◌, subst, leb-true, refl, arith, None}
 use Rattle.std.proofs.Math.Pow.{pow_mono}
 use Rattle.std.proofs.Math.Nat.{mod-eq_of_lt}
 use Rattle.std.proofs.lemmas.Nat.{pow_pos}

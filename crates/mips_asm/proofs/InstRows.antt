@@ -1,5 +1,5 @@
 -- An instruction whose fields have the widths of its row can be coded with any number that its target needs.
-use Rattle.std.proofs.Common.{◌≡◌, ◌<◌, ◌≤◌, ◌^◌, ℕ, List, [], ◌∷◌, length, slice_index_or, refl, ap, sym, ◌∙◌, subst, arith}
+use Rattle.std.proofs.Common.{◌≡◌, ◌<◌, ◌≤◌, ◌^◌, ℕ, List, [], ◌∷◌, length, slice_index_or, ap, sym, subst, arith}
 use Rattle.mips3_table.specs.declared.instruction.Inst.{Inst}
 use Rattle.mips3_table.specs.declared.operand_forms.Form.{Form}
 use Rattle.mips3_table.specs.declared.operand_forms.Form.TheVariants as form
@@ -7,16 +7,11 @@ use Rattle.mips3_table.specs.declared.operand_forms.Widths.{Widths}
 use Rattle.mips3_table.specs.Operands.{widths_of}
 use Rattle.mips3_table.specs.Instructions.{IsInst, FitsWidths, widths_at}
 use Rattle.mips3_table.specs.Rows.{rows, row_at}
-use Rattle.mips_text.specs.declared.token.Token.{Token}
 use Rattle.mips_text.specs.declared.operand.Operand.{Operand}
 use Rattle.mips_text.specs.declared.operand.Operand.TheVariants.{BranchTarget, JumpTarget}
-use Rattle.mips_text.specs.declared.operand.Field.{Field}
-use Rattle.mips_text.specs.declared.operand.Field.TheVariants.{Rs, Rt, Rd, Sa, Imm}
-use Rattle.mips_text.specs.declared.operand.Expected.{Expected}
-use Rattle.mips_text.specs.declared.operand.Expected.TheVariants.{ARegister, ACp0Register, ANumber, ATarget, ALabel, AText, AMark}
-use Rattle.mips_text.specs.Forms.{operands_of, token_text}
+use Rattle.mips_text.specs.Forms.{operands_of}
 use Rattle.mips_asm.specs.Shown.{IsSoundBy}
-use Rattle.mips_text.specs.Line.{with_field, with_operand, with_operands, bare, beq_row}
+use Rattle.mips_text.specs.Line.{bare, beq_row}
 
 -- an instruction whose fields have the widths of its row's form is one of the table, and is so with another number
 is_inst : (w : Widths) (inst : Inst) → inst.row < 129 → w ≡ widths_at inst.row → FitsWidths w inst → IsInst inst

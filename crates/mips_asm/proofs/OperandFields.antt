@@ -1,6 +1,5 @@
 -- The fields that operands give lie in the widths of their form.
-use Rattle.std.proofs.Common.{◌≡◌, ◌<◌, ◌≤◌, ◌^◌, ℕ, Bool, true, false, List, [], ◌∷◌, ◌++◌, Option, Some, None, option_map, option_and_then, IfSome, refl, ap, sym, ◌∙◌, subst, arith, append_assoc, rules}
-use Rattle.std.specs.List.{All}
+use Rattle.std.proofs.Common.{◌≡◌, ◌<◌, ◌≤◌, ◌^◌, ℕ, Bool, true, false, List, [], ◌∷◌, ◌++◌, Option, Some, None, option_map, option_and_then, refl, sym, ◌∙◌, subst, arith, append_assoc, rules}
 use Rattle.std.proofs.Math.Pow.{pow_mono}
 use Rattle.std.proofs.lemmas.Nat.{pow_pos}
 use Rattle.mips3_table.specs.declared.instruction.Inst.{Inst}
@@ -13,10 +12,8 @@ use Rattle.mips3_table.specs.Instructions.{FitsWidths, IsInst, widths_at}
 use Rattle.mips_text.specs.declared.token.Token.{Token}
 use Rattle.mips_text.specs.declared.operand.Field.{Field}
 use Rattle.mips_text.specs.declared.operand.Field.TheVariants.{Rs, Rt, Rd, Sa, Imm}
-use Rattle.mips_text.specs.declared.operand.Range.{Range}
 use Rattle.mips_text.specs.declared.operand.Expected.{Expected}
 use Rattle.mips_text.specs.declared.operand.Expected.TheVariants.{ARegister, ACp0Register, ANumber, AnAlignment, ATarget, ALabel, AText, AMark}
-use Rattle.mips_text.specs.declared.statement.Statement.{Statement}
 use Rattle.mips_text.specs.declared.statement.Statement.TheVariants.{Instruction, Move}
 use Rattle.mips_text.specs.Names.{register_of, cp0_register_of}
 use Rattle.mips_text.specs.Values.{number_of}

@@ -1,13 +1,12 @@
 -- The operands of each form: three at most, each of which the form's fields are in range for.
-use Rattle.std.proofs.Common.{◌≡◌, ◌<◌, ◌≤◌, ◌^◌, ℕ, [], ◌∷◌, length, arith}
+use Rattle.std.proofs.Common.{◌≤◌, length, arith}
 use Rattle.mips3_table.specs.declared.instruction.Inst.{Inst}
 use Rattle.mips3_table.specs.declared.operand_forms.Form.{Form}
 use Rattle.mips3_table.specs.declared.operand_forms.Form.TheVariants.{Target, CompareBranch, ZeroBranch, SignedImmediate, UnsignedImmediate, UpperImmediate, Memory, CacheOperation, CoprocessorNumber, CoprocessorMemory, Shift, ShiftByRegister, Source, JumpAndLinkRegister, Code, NoOperands, Destination, TwoSources, ThreeRegisters, TrapRegisters, TrapImmediate, Cp0Move}
 use Rattle.mips3_table.specs.Operands.{widths_of}
-use Rattle.mips3_table.specs.Rows.{row_at}
-use Rattle.mips3_table.specs.Instructions.{FitsWidths, IsInst}
+use Rattle.mips3_table.specs.Instructions.{FitsWidths}
 use Rattle.mips_text.specs.Forms.{operands_of}
-use Rattle.mips_text.specs.Printed.{OperandFits, AllFit}
+use Rattle.mips_text.specs.Printed.{AllFit}
 
 -- the fields of an instruction that a form uses are in range for its operands
 pub fit_form : (form : Form) (inst : Inst) → FitsWidths (widths_of form) inst → AllFit inst (operands_of form)

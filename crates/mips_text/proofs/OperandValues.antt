@@ -1,12 +1,11 @@
 -- What stands at the places of an operand agrees with what is expected there, and gives the operand's fields back.
-use Rattle.std.proofs.Common.{◌≡◌, ◌<◌, ◌+◌, ◌-◌, ◌%◌, ◌==◌, ◌^◌, ℕ, ℤ, pos, neg_ℤ, negsuc, suc, Bool, true, false, ◌&&◌, List, [], ◌∷◌, Option, Some, None, option_map, option_and_then, nat_lt, nat_le, is_none, if◌then◌else◌, refl, ap, ◌∙◌, arith, lt-ltb, le-leb, ltb-true, ltb-false}
+use Rattle.std.proofs.Common.{◌≡◌, ◌<◌, ◌-◌, ◌==◌, ◌^◌, ℕ, ℤ, pos, neg_ℤ, negsuc, suc, Bool, true, false, ◌&&◌, List, [], ◌∷◌, Option, Some, None, option_map, option_and_then, nat_lt, nat_le, is_none, if◌then◌else◌, refl, ap, ◌∙◌, arith, le-leb, ltb-true, ltb-false}
 use Rattle.std.proofs.lemmas.Grind.{common_steps}
 use Rattle.mips3_code.specs.Targets.{branch_target, jump_target}
-use Rattle.r4_words.specs.Words.{sext16}
 use Rattle.mips3_table.specs.declared.instruction.Inst.{Inst}
 use Rattle.mips3_code.proofs.Reach.{branch_target_below, jump_target_below}
 use Rattle.mips_text.specs.declared.token.TokenKind.TheVariants.{Name, Number}
-use Rattle.mips_text.specs.Names.{register_name, cp0_name}
+use Rattle.mips_text.specs.Names.{cp0_name}
 use Rattle.r4_words.specs.Texts.{dec_of}
 use Rattle.mips_text.specs.Values.{hex_text, signed_text, number_of}
 use Rattle.mips_text.specs.declared.operand.Field.{Field}

@@ -1,6 +1,6 @@
 -- What stands at each place of a statement after its name: the token that is expected there beside the one that the
 -- line has. What is read from such a line depends on the kinds and the texts of its tokens alone.
-use Rattle.std.proofs.Common.{◌≡◌, ℕ, zero, suc, Bool, true, false, not, ◌&&◌, ◌||◌, if◌then◌else◌, List, [], ◌∷◌, length, Option, Some, None, option_and_then, refl, ap, sym, ◌∙◌}
+use Rattle.std.proofs.Common.{◌≡◌, ℕ, suc, Bool, true, false, not, ◌&&◌, ◌||◌, if◌then◌else◌, List, [], ◌∷◌, length, Option, Some, None, option_and_then, refl, ap, sym, ◌∙◌}
 use Rattle.mips3_table.specs.declared.instruction.Inst.{Inst}
 use Rattle.mips3_table.specs.Rows.{row_at}
 use Rattle.mips_text.specs.declared.reason.AsmWhy.TheVariants as why
@@ -12,10 +12,8 @@ use Rattle.mips_text.specs.declared.statement.Statement.{Statement}
 use Rattle.mips_text.specs.declared.statement.Statement.TheVariants.{Instruction}
 use Rattle.mips_text.specs.Forms.{Shape, operands_of, shape_of, separated, statement_named, token_text, names_no_register, has_kind, has_range}
 use Rattle.mips_text.specs.declared.item.Target.{Target}
-use Rattle.mips_text.specs.declared.item.Target.TheVariants.{Address}
 use Rattle.mips_text.specs.declared.item.Item.{Item}
-use Rattle.mips_text.specs.declared.item.Item.TheVariants.{Plain, BranchTo, JumpTo}
-use Rattle.mips_text.specs.Line.{Parts, Reading, Read, Refused, tokens_expected, some_unknown, all_agree, all_in_range, operands_fault, with_operand, with_operands, bare, target_of, target_or, target_in, item_by, item_of, is_colon, is_name, parts_of, with_item, statement_by_fault, statement_by_name, read_statement, read_cut}
+use Rattle.mips_text.specs.Line.{Parts, Reading, Read, Refused, tokens_expected, some_unknown, all_agree, all_in_range, operands_fault, with_operand, with_operands, bare, target_or, target_in, item_by, item_of, is_colon, is_name, parts_of, with_item, statement_by_fault, statement_by_name, read_statement, read_cut}
 use Rattle.mips_text.proofs.Pieces.{Piece, piece, Spells}
 
 -- a place of a statement: what is expected there, and the token that stands there

@@ -1,19 +1,16 @@
 -- What is printed of an instruction is read back as the instruction's word.
-use Rattle.std.proofs.Common.{Option, Some, option_map, option_and_then, ◌≡◌, ◌<◌, ◌≤◌, ◌+◌, ◌-◌, ◌*◌, ◌/◌, ◌%◌, ◌^◌, ◌==◌, ℕ, Bool, true, false, List, [], ◌∷◌, codes, length, nat_lt, if◌then◌else◌, refl, ap, sym, ◌∙◌, subst, arith, eq-eqb, eqb-true}
+use Rattle.std.proofs.Common.{Some, option_map, option_and_then, ◌≡◌, ◌<◌, ◌%◌, ◌^◌, ◌==◌, ℕ, Bool, true, false, List, [], ◌∷◌, codes, if◌then◌else◌, refl, ap, sym, ◌∙◌, subst, arith, eqb-true}
 use Rattle.mips3_code.proofs.Reach.{branch_target_below, jump_target_below}
 use Rattle.mips3_code.specs.Targets.{branch_target, jump_target}
-use Rattle.r4_words.specs.Words.{sext16}
 use Rattle.mips3_table.specs.declared.instruction.Inst.{Inst}
 use Rattle.mips3_table.specs.declared.operand_forms.Form.{Form}
-use Rattle.mips3_table.specs.declared.operand_forms.Form.TheVariants.{Target, CompareBranch, ZeroBranch, SignedImmediate, UnsignedImmediate, UpperImmediate, Memory, CacheOperation, CoprocessorNumber, CoprocessorMemory, Shift, ShiftByRegister, Source, JumpAndLinkRegister, Code, NoOperands, Destination, TwoSources, ThreeRegisters, TrapRegisters, TrapImmediate, Cp0Move}
+use Rattle.mips3_table.specs.declared.operand_forms.Form.TheVariants.{Target, CompareBranch, ZeroBranch}
 use Rattle.mips3_table.specs.Operands.{widths_of}
 use Rattle.mips3_table.specs.Rows.{row_at}
 use Rattle.mips3_table.specs.Instructions.{FitsWidths, IsInst}
 use Rattle.mips3_code.specs.Coding.{encoded}
-use Rattle.mips_text.specs.declared.reason.AsmWhy.TheVariants as why
 use Rattle.mips_text.specs.declared.token.TokenKind.TheVariants.{Name}
 use Rattle.mips_text.specs.Tokens.{tokens_of, cut_from, start_of}
-use Rattle.mips_text.specs.Values.{hex_text}
 use Rattle.mips_text.specs.declared.statement.Statement.TheVariants.{Instruction}
 use Rattle.mips3_table.specs.Matching.{row_named}
 use Rattle.mips_text.specs.Forms.{operands_of, statement_named}

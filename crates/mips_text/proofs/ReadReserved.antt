@@ -1,5 +1,5 @@
 -- What is printed of a reserved word is read back as the word.
-use Rattle.std.proofs.Common.{◌≡◌, ◌<◌, ◌-◌, ◌^◌, ℕ, List, [], ◌∷◌, ◌++◌, codes, Option, Some, None, option_map, if◌then◌else◌, refl, ap, ◌∙◌, subst, arith, append-nil, le-leb}
+use Rattle.std.proofs.Common.{◌≡◌, ◌<◌, ◌-◌, ◌^◌, ℕ, List, [], ◌∷◌, ◌++◌, codes, Some, None, option_map, if◌then◌else◌, refl, ap, ◌∙◌, subst, arith, append-nil, le-leb}
 use Rattle.mips_text.specs.declared.token.TokenKind.TheVariants.{Name, Number}
 use Rattle.mips_text.specs.Tokens.{tokens_of}
 use Rattle.mips_text.specs.Values.{hex_text, number_of}

@@ -1,6 +1,6 @@
 -- What the numbers and texts of a source stand for, and how numbers are printed.
 -- Source: the assembler language of this project; the printed formats are those that Rust's std writes for {} and {:#x}.
-use Rattle.std.specs.Prelude.{◌≡◌, ◌<◌, ◌≤◌, ℕ, ℤ, pos, neg_ℤ, nat_abs, zero, suc, ◌+◌, ◌-◌, ◌*◌, ◌^◌, ◌==◌, nat_lt, nat_le, Bool, true, false, if◌then◌else◌, List, [], ◌∷◌, ◌++◌, map, length, take, drop, slice_index, Option, Some, None, codes}
+use Rattle.std.specs.Prelude.{◌≡◌, ◌<◌, ◌≤◌, ℕ, ℤ, pos, neg_ℤ, nat_abs, zero, suc, ◌-◌, ◌^◌, ◌==◌, nat_lt, Bool, true, false, if◌then◌else◌, List, [], ◌∷◌, ◌++◌, map, length, take, drop, slice_index, Option, Some, None, codes}
 use Rattle.std.specs.Int.Digits.{digits_of}
 use Rattle.r4_words.specs.Texts.{dec_of, digit_of, number_after}
 use Rattle.mips_text.specs.Tokens.{is_hexadecimal}
