@@ -38,4 +38,3 @@ fit_form Cp0Move inst fits = (fits.rt, (fits.rd, tt))
 pub few_operands : (form : Form) → length (operands_of form) ≤ 3
 few_operands Target = omega arith
 few_operands _ = omega arith
-

@@ -123,14 +123,18 @@ impl<'a> Bytes<'a> {
     pub fn of_numbers(list: ArrayVec<u8, 64>) -> Self
         ensures { result ≡ list.items }
     {
-        Bytes { source: Source::Numbers(list) }
+        Bytes {
+            source: Source::Numbers(list),
+        }
     }
 
     /// The bytes of a text in quotes.
     pub fn of_text(text: &'a [u8]) -> Self
         ensures { result ≡ unwrap_or (bytes_of_text text.now) [] }
     {
-        Bytes { source: Source::Text(text) }
+        Bytes {
+            source: Source::Text(text),
+        }
     }
 
     /// How many they are.

@@ -10,9 +10,7 @@ ghost use Rattle.mips_text.specs.ReadBack.{ReadsAs, word_kept};
 
 use crate::forms::operands_of;
 use crate::operand::{Field, Operand};
-use crate::writing::{
-    put_based, put_cp0_register, put_hexadecimal, put_register, put_signed,
-};
+use crate::writing::{put_based, put_cp0_register, put_hexadecimal, put_register, put_signed};
 use mips3_code::{branch_target, decode, encode, jump_target};
 use mips3_table::{Inst, form_of, name_of};
 use r4_words::{Line, put_dec, put_text};
