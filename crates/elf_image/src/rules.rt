@@ -8,7 +8,7 @@ use crate::segments::{Segment, segment_at};
 use flat_ram::{RAM_SIZE, half_at, is_unmapped, physical, word_at};
 
 /// A rule of images.
-#[derive(Clone, Copy, PartialEq, Eq, Debug)]
+#[derive(Clone, Copy)]
 pub enum ImageRule {
     Short,
     Magic,

@@ -1,7 +1,7 @@
 //! The translation lookaside buffer: 48 pairs of pages.
 
 /// A pair of pages as the TLB keeps it, in the layouts of PageMask, EntryHi, EntryLo0 and EntryLo1.
-#[derive(Clone, Copy, Debug, PartialEq, Eq)]
+#[derive(Clone, Copy)]
 pub struct Pair {
     pub mask: u32,
     pub hi: u32,

@@ -4,7 +4,7 @@ ghost use Rattle.std.specs.Prelude.{◌≡◌, ◌<◌};
 ghost use Rattle.machine_core.specs.Registers as law;
 
 /// The 32 general registers, of 64 bits each, with HI and LO. Register 0 reads as zero.
-#[derive(Clone, Copy, Debug, PartialEq, Eq)]
+#[derive(Clone, Copy)]
 pub struct Regs {
     /// The general registers by number.
     pub r: [u64; 32],

@@ -6,7 +6,7 @@ ghost use Rattle.machine_core.specs.SystemControl as law;
 use r4_words::field;
 
 /// The registers of CP0, of 32 bits each, by the names of the manual.
-#[derive(Clone, Copy, Debug, PartialEq, Eq)]
+#[derive(Clone, Copy)]
 pub struct Cp0 {
     pub index: u32,
     pub random: u32,

@@ -1,7 +1,7 @@
 //! What the processor asks of a memory system, and what it replies.
 
 /// A reference to memory: through the caches or past them, from a quiet state or not, and where.
-#[derive(Clone, Copy, Debug, PartialEq, Eq)]
+#[derive(Clone, Copy)]
 pub struct Access {
     /// Whether it goes through the caches.
     pub cached: bool,
@@ -14,7 +14,7 @@ pub struct Access {
 }
 
 /// What the processor asks.
-#[derive(Clone, Copy, Debug, PartialEq, Eq)]
+#[derive(Clone, Copy)]
 pub enum Request {
     /// Apply the inputs that were recorded for this tick.
     Inputs {
@@ -48,7 +48,7 @@ pub enum Request {
 }
 
 /// What a memory system replies.
-#[derive(Clone, Copy, Debug, PartialEq, Eq)]
+#[derive(Clone, Copy)]
 pub enum Reply {
     /// It was done, and there is nothing to tell.
     Done,
@@ -73,7 +73,7 @@ pub enum Reply {
 }
 
 /// What is not built yet.
-#[derive(Clone, Copy, Debug, PartialEq, Eq)]
+#[derive(Clone, Copy)]
 pub enum Part {
     /// The instruction word.
     Word,

@@ -10,7 +10,7 @@ use crate::stepping::step;
 use crate::talk::{MemorySystem, Part, Request};
 
 /// How a tick ended.
-#[derive(Clone, Copy, Debug, PartialEq, Eq)]
+#[derive(Clone, Copy)]
 pub enum Tick {
     /// It ran.
     Ran,

@@ -24,6 +24,6 @@ pub use operations::{
     Amount, Comparison, Coprocessor, DelaySlot, Link, Operation, Overflow, Signedness, Size, Width,
 };
 pub use table::{
-    RowRecord, at_most_one_row, form_of, is_64_bit, name_of, names_differ, operation_of, record_of,
-    row_named, row_of,
+    RowRecord, at_most_one_row, form_of, is_64_bit, name_of, names_differ, operation_of, reads,
+    record_of, row_named, row_of,
 };

@@ -226,8 +226,8 @@ pub fn is_64_bit(row: u8) -> bool
     record_of(row).is_64_bit
 }
 
-// Whether a text is this name.
-fn reads(text: &[u8], name: &str) -> bool
+/// Whether a text is this name.
+pub fn reads(text: &[u8], name: &str) -> bool
     ensures { result ≡ bytes_eq text.now name.now }
 {
     text == name.as_bytes()

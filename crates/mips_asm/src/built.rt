@@ -4,7 +4,7 @@ use mips_text::AsmWhy;
 use thiserror::Error;
 
 /// An image.
-#[derive(Debug, Drop)]
+#[derive(Drop)]
 pub struct Built {
     /// The address of the first byte.
     pub base: u32,
@@ -15,7 +15,7 @@ pub struct Built {
 }
 
 /// Why a source has no image.
-#[derive(Clone, Copy, PartialEq, Eq, Debug, Error)]
+#[derive(Clone, Copy, Debug, Error)]
 pub enum AsmFault {
     /// The first bad line, counted from 1, and the first reason that holds for it.
     #[error("line {line}: {why}")]

@@ -4,8 +4,8 @@ ghost use Rattle.std.specs.Prelude.{◌≡◌, IfSome};
 ghost use Rattle.mips_text.specs.Forms as forms;
 ghost use Rattle.mips_asm.specs.StatementsOf.{IsStatement};
 
-use mips_text::{Statement, reads};
-use mips3_table::row_named;
+use mips_text::Statement;
+use mips3_table::{reads, row_named};
 
 /// The directive of a name, or the instruction.
 fn directive_named(text: &[u8]) -> Option<Statement>

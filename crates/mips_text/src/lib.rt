@@ -32,7 +32,7 @@ pub use item::{Bytes, Item, Line, Name, Target, Words};
 pub use lexing::tokens;
 pub use operand::{Expected, Field, Operand, Range};
 pub use printing::{print_inst, print_word};
-pub use reading::{cp0_register_of, number_of, reads, register_of};
+pub use reading::{cp0_register_of, number_of, register_of};
 pub use reason::AsmWhy;
 pub use statement::Statement;
 pub use texts::{push_text, text_size};

@@ -8,14 +8,8 @@ ghost use Rattle.mips_text.specs.Values as values;
 
 use crate::lexing::{byte_at, is_hexadecimal, rest_from};
 use crate::names::{cp0_name, register_name};
+use mips3_table::reads;
 use r4_words::{read_dec, value_of_digit};
-
-/// Whether a text is this name.
-pub fn reads(text: &[u8], name: &str) -> bool
-    ensures { result ≡ bytes_eq text.now name.now }
-{
-    text == name.as_bytes()
-}
 
 fn named_register(text: &[u8]) -> Option<u8>
     ensures value { result ≡ position (bytes_eq text.now) names.register_names }

@@ -3,7 +3,7 @@
 use thiserror::Error;
 
 /// The reason for which a line of a source is refused. Of several that hold for a line the first stands.
-#[derive(Clone, Copy, PartialEq, Eq, Debug, Error)]
+#[derive(Clone, Copy, Debug, Error)]
 pub enum AsmWhy {
     /// A name is no statement, or no register where one is expected, or a byte begins no token.
     #[error("unknown name or byte")]

@@ -3,7 +3,7 @@
 use crate::reason::AsmWhy;
 
 /// The kind of a token. A default stands here, as in `Token`, for `ArrayVec::new`.
-#[derive(Clone, Copy, PartialEq, Eq, Debug, Default)]
+#[derive(Clone, Copy, Default)]
 pub enum TokenKind {
     /// Letters, digits, `_` and `.`, not a digit first; or `$` and one or more digits.
     #[default]
@@ -17,7 +17,7 @@ pub enum TokenKind {
 }
 
 /// A token of a line: the bytes `from..to` of it.
-#[derive(Clone, Copy, PartialEq, Eq, Debug, Default)]
+#[derive(Clone, Copy, Default)]
 pub struct Token {
     /// What the token is.
     pub kind: TokenKind,

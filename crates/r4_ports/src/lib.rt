@@ -34,7 +34,7 @@ pub use sure_sink::SureSink;
 use thiserror::Error;
 
 /// Why a fetch gave no bytes.
-#[derive(Clone, Copy, Debug, PartialEq, Eq, Error)]
+#[derive(Clone, Copy, Debug, Error)]
 pub enum FetchFault {
     /// The file could not be read.
     #[error("the file could not be read")]
@@ -55,7 +55,7 @@ impl From<Memory> for FetchFault {
 }
 
 /// Why a put did not keep its bytes.
-#[derive(Clone, Copy, Debug, PartialEq, Eq, Error)]
+#[derive(Clone, Copy, Debug, Error)]
 pub enum PutFault {
     /// The file could not be written.
     #[error("the file could not be written")]
@@ -63,7 +63,7 @@ pub enum PutFault {
 }
 
 /// Why a sink did not take the whole piece.
-#[derive(Clone, Copy, Debug, PartialEq, Eq, Error)]
+#[derive(Clone, Copy, Debug, Error)]
 pub enum SinkFault {
     /// The output could not be written.
     #[error("the output could not be written")]
@@ -71,7 +71,7 @@ pub enum SinkFault {
 }
 
 /// What a call of a shelf asks for.
-#[derive(Clone, Copy, Debug, PartialEq, Eq)]
+#[derive(Clone, Copy)]
 pub enum CallKind {
     /// The bytes of a file.
     Fetch,

@@ -12,7 +12,7 @@ use r4_ports::{Sink, SinkFault, write_all};
 use r4_words::{Line, Memory, put_dec, put_text};
 
 /// How the program ended.
-#[derive(Clone, Copy, PartialEq, Eq)]
+#[derive(Clone, Copy)]
 pub enum Status {
     /// The job is complete.
     Done,

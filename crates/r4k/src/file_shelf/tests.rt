@@ -38,7 +38,7 @@ fn fails_to_fetch(rt: &HostRuntime, path: &str) -> bool {
     let mut shelf = FileShelf::new(rt, rt.alloc());
     match shelf.fetch(rt.alloc(), path, 100) {
         Ok(_) => false,
-        Err(fault) => fault == FetchFault::Failed && shelf.fetch_faults == 1,
+        Err(fault) => matches!(fault, FetchFault::Failed) && shelf.fetch_faults == 1,
     }
 }
 

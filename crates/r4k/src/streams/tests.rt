@@ -84,7 +84,7 @@ fn fails(alloc: Global, failing: usize) -> bool {
     };
     match read_up_to(&mut input, alloc, 100) {
         Ok(_) => false,
-        Err(fault) => fault == FetchFault::Failed,
+        Err(fault) => matches!(fault, FetchFault::Failed),
     }
 }
 
