@@ -242,7 +242,7 @@ is_too_long None = false
 abbrev pub with_label : Option (List ℕ) → Option Item → Reading
 with_label label item = if is_too_long label then Refused why.Range else Read (record { label = label; item = item })
 
--- a statement that puts this; tokens without a fault always are the operands of one
+-- a statement that puts this; one whose operands stand for nothing has wrong operands
 abbrev pub with_item : Option (List ℕ) → Option Item → Reading
 with_item label (Some item) = with_label label (Some item)
 with_item label None = Refused why.Operand
