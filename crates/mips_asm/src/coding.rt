@@ -119,6 +119,17 @@ fn address_of(labels: &Labels, target: &Target) -> Option<u32>
     }
 }
 
+/// Appends the word of an instruction that reaches its target, if there is one.
+fn put_reached(word: Option<u32>, bytes: &mut Vec<u8>) -> Result<(), Stop>
+    ensures { IsCoded (word_shown word) result bytes.old.items bytes.new.items }
+{
+    let Some(word) = word else {
+        return Err(Stop::Lacks(AsmWhy::Range));
+    };
+    put_word(word, bytes)?;
+    Ok(())
+}
+
 /// Appends a branch.
 fn put_branch(
     labels: &Labels,
@@ -134,11 +145,7 @@ fn put_branch(
     let Some(address) = address_of(labels, target) else {
         return Err(Stop::Lacks(AsmWhy::NoLabel));
     };
-    let Some(word) = branch_word(inst, at, address) else {
-        return Err(Stop::Lacks(AsmWhy::Range));
-    };
-    put_word(word, bytes)?;
-    Ok(())
+    put_reached(branch_word(inst, at, address), bytes)
 }
 
 /// Appends a jump.
@@ -156,11 +163,7 @@ fn put_jump(
     let Some(address) = address_of(labels, target) else {
         return Err(Stop::Lacks(AsmWhy::NoLabel));
     };
-    let Some(word) = jump_word(inst, at, address) else {
-        return Err(Stop::Lacks(AsmWhy::Range));
-    };
-    put_word(word, bytes)?;
-    Ok(())
+    put_reached(jump_word(inst, at, address), bytes)
 }
 
 /// Appends the instructions that load a register with the address of a label.
