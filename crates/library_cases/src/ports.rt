@@ -121,10 +121,16 @@ fn put_sure_answer(
     Ok(true)
 }
 
+// A name with bytes.
+fn named(alloc: Global, name: &str, bytes: Vec<u8>) -> Result<(String, Vec<u8>), AllocError> {
+    let name = String::from_str(alloc, name)?;
+    Ok((name, bytes))
+}
+
 // The file of a word.
 fn file_of(alloc: Global, word: &str) -> Result<(String, Vec<u8>), AllocError> {
     let (name, text) = word.split_once(':').unwrap_or((word, ""));
-    Ok((String::from_str(alloc, name)?, text_of(alloc, text)?))
+    named(alloc, name, text_of(alloc, text)?)
 }
 
 // The files of the words from an index on.

@@ -27,8 +27,11 @@ pub fn put_answer(verb: &str, arguments: &str, out: &mut String) -> Result<bool,
 }
 
 fn extended_half(arguments: &str) -> Option<u64> {
-    let half = u16::try_from(number_at(arguments, 0)?).ok()?;
-    Some(u64::from(sext16(half)))
+    let half = number_at(arguments, 0)?;
+    if half > 0xffff {
+        return None;
+    }
+    Some(u64::from(sext16(half as u16)))
 }
 
 fn extended_word(arguments: &str) -> Option<u64> {
