@@ -1,0 +1,4 @@
+pub mod Operands
+pub mod Accesses
+pub mod Effects
+pub mod Ranges
