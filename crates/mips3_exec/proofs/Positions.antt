@@ -1,5 +1,5 @@
 -- What loads and stores make of a register, at every position, without lists.
-use Rattle.std.proofs.Common.{◌≡◌, ℕ, zero, suc, ◌+◌, ◌-◌, ◌*◌, ◌/◌, ◌%◌, ◌^◌, ◌<◌, ◌≤◌, refl, sym, ap, ◌∙◌, arith, mul_comm, mul_assoc}
+use Rattle.std.proofs.Common.{◌≡◌, ℕ, zero, suc, ◌+◌, ◌-◌, ◌*◌, ◌/◌, ◌%◌, ◌^◌, ◌<◌, ◌≤◌, refl, sym, ap, ◌∙◌, arith, IsTrue, mul_comm, mul_assoc}
 use Rattle.std.proofs.Math.Nat.{div-add-mod, mod-eq_of_lt}
 use Rattle.std.proofs.lemmas.Nat.{pow-add, div_below, mod_below}
 use Rattle.mips3_table.specs.declared.operations.Width.{Width}
@@ -8,9 +8,10 @@ use Rattle.mips3_table.specs.declared.operations.Size.{Size}
 use Rattle.mips3_table.specs.declared.operations.Size.TheVariants.{Byte, Half, Wide}
 use Rattle.mips3_table.specs.declared.operations.Signedness.{Signedness}
 use Rattle.mips3_table.specs.declared.operations.Signedness.TheVariants.{Signed, Unsigned}
+use Rattle.mips3_table.specs.declared.operations.Operation.{Operation}
 use Rattle.mips3_table.specs.declared.operations.Operation.TheVariants.{Load, LoadLeft, LoadRight, LoadLinked, Store, StoreLeft, StoreRight, StoreConditional}
 use Rattle.mips3_alu.specs.Arithmetic.{extended}
-use Rattle.mips3_exec.specs.Accesses.{Moved, whole, left, right, merged, as_register, bytes_of_width, bytes_of_size, loaded_by, stored_by}
+use Rattle.mips3_exec.specs.Accesses.{Moved, whole, left, right, merged, as_register, bytes_of_width, bytes_of_size, loaded_by, stored_by, moved, is_store}
 use Rattle.mips3_exec.proofs.Pieces.{some_bytes, piece_is, merged_is}
 
 -- a shifted one is a power of 256
@@ -175,3 +176,14 @@ pub right_stored : (width : Width) (value va : ℕ) → stored_by (StoreRight wi
 unfolding stored_by
 right_stored Word value va = piece_is (7 - va % 4) (va % 4 + 1) 0 value (omega arith) ∙ whole_piece (256 ^ (va % 4 + 1)) value
 right_stored Double value va = piece_is (7 - va % 8) (va % 8 + 1) 0 value (omega arith) ∙ whole_piece (256 ^ (va % 8 + 1)) value
+
+-- a store's number fits its bytes
+pub stored_fits : (operation : Operation) (value va : ℕ) → IsTrue (is_store operation) → stored_by operation value va < 256 ^ (moved operation va).size
+stored_fits (Store size) value va is = rw (whole_stored size value va) (mod_below value (256 ^ bytes_of_size size) (some_bytes (bytes_of_size size)))
+stored_fits (StoreLeft width) value va is =
+    rw (left_stored width value va) (mod_below _ (256 ^ (bytes_of_width width - va % bytes_of_width width)) (some_bytes (bytes_of_width width - va % bytes_of_width width)))
+stored_fits (StoreRight width) value va is =
+    rw (right_stored width value va) (mod_below value (256 ^ (va % bytes_of_width width + 1)) (some_bytes (va % bytes_of_width width + 1)))
+stored_fits (StoreConditional width) value va is =
+    rw (conditional_stored width value va) (mod_below value (256 ^ bytes_of_width width) (some_bytes (bytes_of_width width)))
+stored_fits _ value va is = cc

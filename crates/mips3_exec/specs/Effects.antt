@@ -77,15 +77,15 @@ abbrev pub is_likely : DelaySlot → Bool
 is_likely AlwaysExecuted = false
 is_likely NullifiedUnlessTaken = true
 
--- the number of a coprocessor
-abbrev pub unit_of : Coprocessor → ℕ
-unit_of One = 1
-unit_of Two = 2
+-- the exception of a coprocessor that is not usable (11), with the coprocessor's number
+abbrev pub unusable : Coprocessor → Effect
+unusable One = effect.Raise 11 1
+unusable Two = effect.Raise 11 2
 
 -- ---- the equations
 
-module _ (form : Form) (inst : Inst) (regs : Regs) (pc : ℕ) where
-  -- the operands: all of them are read before anything is written
+module _ (form : Form) (inst : Inst) (regs : Regs) where
+  -- the operands: all of them are read before anything is written, so a link does not change what a branch compares
   abbrev pub a : ℕ
   a = first inst regs
 
@@ -96,57 +96,58 @@ module _ (form : Form) (inst : Inst) (regs : Regs) (pc : ℕ) where
   abbrev pub set : ℕ → Effect
   set value = effect.Set (destination form inst) value
 
-  -- a jump or a branch
-  abbrev pub go : Bool → Bool → Link → Effect
-  go taken likely link = effect.Jump taken likely (target form inst regs pc) (link_register link inst) (link_value link pc)
-
   -- an access to the bytes that an operation moves, for register rt
   abbrev pub access : Touch → Operation → Effect
   access kind operation =
       effect.Touch kind (address form inst regs) (moved operation (address form inst regs)).first (moved operation (address form inst regs)).size inst.rt
 
-  -- The effect of each operation.
-  unfoldable pub carried_out : Operation → Effect
-  carried_out (Jump link) = go true false link
-  carried_out (Branch comparison slot link) = go (holds comparison a b) (is_likely slot) link
-  carried_out (Add width overflow) = set_or_overflow (destination form inst) (sum_by overflow (bits width) a b)
-  carried_out (Subtract width overflow) = set_or_overflow (destination form inst) (difference_by overflow (bits width) a b)
-  carried_out And = set (bit_and a b)
-  carried_out Or = set (bit_or a b)
-  carried_out ExclusiveOr = set (bit_xor a b)
-  carried_out NotOr = set (nor a b)
-  carried_out (SetWhere comparison) = set (one_where (holds comparison a b))
-  carried_out LoadUpper = set (sext32 (inst.imm * 2 ^ 16 % 2 ^ 32))
-  carried_out (ShiftLeft width by) = set (shifted_left (bits width) (shifted inst regs) (amount by width inst regs))
-  carried_out (ShiftRightLogical width by) = set (shifted_right_logical (bits width) (shifted inst regs) (amount by width inst regs))
-  carried_out (ShiftRightArithmetic width by) = set (shifted_right_arithmetic (bits width) (shifted inst regs) (amount by width inst regs))
-  carried_out (Multiply width signedness) = to_hi_and_lo (product_by signedness (bits width) a b)
-  carried_out (Divide width signedness) = to_hi_and_lo (division_by signedness (bits width) a b)
-  carried_out MoveFromHi = set regs.hi
-  carried_out MoveFromLo = set regs.lo
-  carried_out MoveToHi = effect.HiLo a regs.lo
-  carried_out MoveToLo = effect.HiLo regs.hi a
-  carried_out (TrapWhere comparison) = trap_where (holds comparison a b)
-  carried_out SystemCall = effect.Raise 8 0
-  carried_out Breakpoint = effect.Raise 9 0
-  carried_out Synchronize = effect.Nothing
-  carried_out (Load size signedness) = access touch.Load (Load size signedness)
-  carried_out (LoadLeft width) = access touch.Load (LoadLeft width)
-  carried_out (LoadRight width) = access touch.Load (LoadRight width)
-  carried_out (LoadLinked width) = access touch.Link (LoadLinked width)
-  carried_out (Store size) = access touch.Store (Store size)
-  carried_out (StoreLeft width) = access touch.Store (StoreLeft width)
-  carried_out (StoreRight width) = access touch.Store (StoreRight width)
-  carried_out (StoreConditional width) = access touch.Cond (StoreConditional width)
-  carried_out OperateCache = access touch.Cache OperateCache
-  carried_out (UseCoprocessor coprocessor) = effect.Raise 11 (unit_of coprocessor)
-  carried_out (MoveFromCp0 width) = effect.System inst.row
-  carried_out (MoveToCp0 width) = effect.System inst.row
-  carried_out ReadTlb = effect.System inst.row
-  carried_out WriteIndexedTlb = effect.System inst.row
-  carried_out WriteRandomTlb = effect.System inst.row
-  carried_out ProbeTlb = effect.System inst.row
-  carried_out ReturnFromException = effect.System inst.row
+  module _ (pc : ℕ) where
+    -- a jump or a branch: whether it is taken, whether it is likely, its target and its link
+    abbrev pub go : Bool → Bool → Link → Effect
+    go taken likely link = effect.Jump taken likely (target form inst regs pc) (link_register link inst) (link_value link pc)
+
+    -- The effect of each operation.
+    unfoldable pub carried_out : Operation → Effect
+    carried_out (Jump link) = go true false link
+    carried_out (Branch comparison slot link) = go (holds comparison a b) (is_likely slot) link
+    carried_out (Add width overflow) = set_or_overflow (destination form inst) (sum_by overflow (bits width) a b)
+    carried_out (Subtract width overflow) = set_or_overflow (destination form inst) (difference_by overflow (bits width) a b)
+    carried_out And = set (bit_and a b)
+    carried_out Or = set (bit_or a b)
+    carried_out ExclusiveOr = set (bit_xor a b)
+    carried_out NotOr = set (nor a b)
+    carried_out (SetWhere comparison) = set (one_where (holds comparison a b))
+    carried_out LoadUpper = set (sext32 (inst.imm * 2 ^ 16 % 2 ^ 32))
+    carried_out (ShiftLeft width by) = set (shifted_left (bits width) (shifted inst regs) (amount by width inst regs))
+    carried_out (ShiftRightLogical width by) = set (shifted_right_logical (bits width) (shifted inst regs) (amount by width inst regs))
+    carried_out (ShiftRightArithmetic width by) = set (shifted_right_arithmetic (bits width) (shifted inst regs) (amount by width inst regs))
+    carried_out (Multiply width signedness) = to_hi_and_lo (product_by signedness (bits width) a b)
+    carried_out (Divide width signedness) = to_hi_and_lo (division_by signedness (bits width) a b)
+    carried_out MoveFromHi = set regs.hi
+    carried_out MoveFromLo = set regs.lo
+    carried_out MoveToHi = effect.HiLo a regs.lo
+    carried_out MoveToLo = effect.HiLo regs.hi a
+    carried_out (TrapWhere comparison) = trap_where (holds comparison a b)
+    carried_out SystemCall = effect.Raise 8 0
+    carried_out Breakpoint = effect.Raise 9 0
+    carried_out Synchronize = effect.Nothing
+    carried_out (Load size signedness) = access touch.Load (Load size signedness)
+    carried_out (LoadLeft width) = access touch.Load (LoadLeft width)
+    carried_out (LoadRight width) = access touch.Load (LoadRight width)
+    carried_out (LoadLinked width) = access touch.Link (LoadLinked width)
+    carried_out (Store size) = access touch.Store (Store size)
+    carried_out (StoreLeft width) = access touch.Store (StoreLeft width)
+    carried_out (StoreRight width) = access touch.Store (StoreRight width)
+    carried_out (StoreConditional width) = access touch.Cond (StoreConditional width)
+    carried_out OperateCache = access touch.Cache OperateCache
+    carried_out (UseCoprocessor coprocessor) = unusable coprocessor
+    carried_out (MoveFromCp0 width) = effect.System inst.row
+    carried_out (MoveToCp0 width) = effect.System inst.row
+    carried_out ReadTlb = effect.System inst.row
+    carried_out WriteIndexedTlb = effect.System inst.row
+    carried_out WriteRandomTlb = effect.System inst.row
+    carried_out ProbeTlb = effect.System inst.row
+    carried_out ReturnFromException = effect.System inst.row
 
 -- ---- read off the table
 

@@ -3,7 +3,11 @@ use Rattle.std.specs.Prelude.{◌≡◌, ◌<◌, ◌≤◌, ◌==◌, ◌+◌, 
 use Rattle.mips3_table.specs.declared.instruction.Inst.{Inst}
 use Rattle.mips3_table.specs.declared.operand_forms.Form.{Form}
 use Rattle.mips3_table.specs.declared.operations.Operation.{Operation}
-use Rattle.mips3_table.specs.declared.operations.Operation.TheVariants.{MoveFromCp0, MoveToCp0, ReadTlb, WriteIndexedTlb, WriteRandomTlb, ProbeTlb, ReturnFromException}
+use Rattle.mips3_table.specs.declared.operations.Operation.TheVariants.{ShiftLeft, ShiftRightLogical, ShiftRightArithmetic, MoveFromCp0, MoveToCp0, ReadTlb, WriteIndexedTlb, WriteRandomTlb, ProbeTlb, ReturnFromException}
+use Rattle.mips3_table.specs.declared.operations.Width.{Width}
+use Rattle.mips3_table.specs.declared.operations.Width.TheVariants.{Word, Double}
+use Rattle.mips3_table.specs.declared.operations.Amount.{Amount}
+use Rattle.mips3_table.specs.declared.operations.Amount.TheVariants.{InField, InFieldPlus32, InRegister}
 use Rattle.mips3_table.specs.Operands.{widths_of}
 use Rattle.mips3_exec.specs.declared.effects.Effect.{Effect}
 use Rattle.mips3_exec.specs.declared.effects.Effect.TheVariants.{Nothing, Set, HiLo, Jump, Touch, System, Raise}
@@ -18,6 +22,17 @@ pub record HasFields (form : Form) (inst : Inst) : Type 0 where
   pub rd : inst.rd < 32
   pub sa : inst.sa < 32
   pub imm : inst.imm < 2 ^ (widths_of form).number
+
+-- a shift of a word has no amount of 32 and more
+abbrev pub amount_fits : Amount → Width → Bool
+amount_fits InFieldPlus32 Word = false
+amount_fits by width = true
+
+abbrev pub shifts_within : Operation → Bool
+shifts_within (ShiftLeft width by) = amount_fits by width
+shifts_within (ShiftRightLogical width by) = amount_fits by width
+shifts_within (ShiftRightArithmetic width by) = amount_fits by width
+shifts_within _ = true
 
 -- each register that an effect names is one of the 32
 abbrev pub HasRegisters : Effect → Type 0

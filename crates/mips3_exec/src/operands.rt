@@ -1,9 +1,9 @@
 //! The operands of an instruction, as the form of its row gives them.
 
-ghost use Rattle.std.specs.Prelude.{◌≡◌, ◌<◌, ◌%◌, ◌^◌};
+ghost use Rattle.std.specs.Prelude.{◌≡◌, ◌<◌, ◌%◌, ◌^◌, IsTrue};
 ghost use Rattle.r4_words.specs.Words.{sext16 as sext16_of, sext32 as sext32_of};
 ghost use Rattle.mips3_exec.specs.Operands as law;
-ghost use Rattle.mips3_exec.specs.Ranges.{HasFields};
+ghost use Rattle.mips3_exec.specs.Ranges.{HasFields, amount_fits};
 
 use mips3_alu::Regs;
 use mips3_code::{branch_target, jump_target};
@@ -55,7 +55,9 @@ pub fn second(form: Form, inst: &Inst, regs: &Regs) -> u64
 pub fn amount(by: Amount, width: Width, inst: &Inst, regs: &Regs) -> u32
     requires rs { inst.now.rs < 32 }
     requires sa { inst.now.sa < 32 }
-    ensures { result ≡ law.amount by width inst.now regs.now }
+    requires within { IsTrue (amount_fits by width) }
+    ensures value { result ≡ law.amount by width inst.now regs.now }
+    ensures small { result < law.bits width }
 {
     match by {
         Amount::InField => u32::from(inst.sa),

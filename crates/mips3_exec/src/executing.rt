@@ -1,0 +1,276 @@
+//! The effect of each operation.
+
+ghost use Rattle.std.specs.Prelude.{◌≡◌, ◌<◌, IsTrue};
+ghost use Rattle.mips3_alu.specs.Arithmetic as arithmetic;
+ghost use Rattle.mips3_exec.specs.Operands as operands;
+ghost use Rattle.mips3_exec.specs.Operands.{bits};
+ghost use Rattle.mips3_exec.specs.Effects as law;
+ghost use Rattle.mips3_exec.specs.Ranges.{HasFields, amount_fits, shifts_within};
+
+use crate::accesses::moved;
+use crate::effects::{Effect, Touch};
+use crate::operands::{address, amount, destination, link_register, link_value, second, target};
+use mips3_alu::{
+    Halves, Regs, alu_add, alu_addu, alu_and, alu_dadd, alu_daddu, alu_ddiv, alu_ddivu, alu_div,
+    alu_divu, alu_dmult, alu_dmultu, alu_dsll, alu_dsra, alu_dsrl, alu_dsub, alu_dsubu, alu_mult,
+    alu_multu, alu_nor, alu_or, alu_sll, alu_slt, alu_sltu, alu_sra, alu_srl, alu_sub, alu_subu,
+    alu_xor,
+};
+use mips3_table::Operation::{
+    Add, And, Branch, Breakpoint, Divide, ExclusiveOr, Jump, Load, LoadLeft, LoadLinked, LoadRight,
+    LoadUpper, MoveFromCp0, MoveFromHi, MoveFromLo, MoveToCp0, MoveToHi, MoveToLo, Multiply, NotOr,
+    OperateCache, Or, ProbeTlb, ReadTlb, ReturnFromException, SetWhere, ShiftLeft,
+    ShiftRightArithmetic, ShiftRightLogical, Store, StoreConditional, StoreLeft, StoreRight,
+    Subtract, Synchronize, SystemCall, TrapWhere, UseCoprocessor, WriteIndexedTlb, WriteRandomTlb,
+};
+use mips3_table::{
+    Amount, Comparison, Coprocessor, DelaySlot, Form, Inst, Link, Operation, Overflow, Signedness,
+    Width,
+};
+use r4_words::sext32;
+
+// Whether a comparison holds of two values.
+fn holds(comparison: Comparison, a: u64, b: u64) -> bool
+    ensures { result ≡ law.holds comparison a b }
+{
+    match comparison {
+        Comparison::Equal => a == b,
+        Comparison::NotEqual => a != b,
+        Comparison::Less => alu_slt(a, b) == 1,
+        Comparison::LessUnsigned => alu_sltu(a, b) == 1,
+        Comparison::GreaterOrEqual => alu_slt(a, b) == 0,
+        Comparison::GreaterOrEqualUnsigned => alu_sltu(a, b) == 0,
+        Comparison::LessOrEqual => alu_slt(b, a) == 0,
+        Comparison::Greater => alu_slt(b, a) == 1,
+    }
+}
+
+// The sum, or None where a trapping one does not fit.
+fn sum(overflow: Overflow, width: Width, a: u64, b: u64) -> Option<u64>
+    ensures { result ≡ law.sum_by overflow (bits width) a b }
+{
+    match (overflow, width) {
+        (Overflow::Traps, Width::Word) => alu_add(a, b),
+        (Overflow::Traps, Width::Double) => alu_dadd(a, b),
+        (Overflow::Wraps, Width::Word) => Some(alu_addu(a, b)),
+        (Overflow::Wraps, Width::Double) => Some(alu_daddu(a, b)),
+    }
+}
+
+// The difference, or None where a trapping one does not fit.
+fn difference(overflow: Overflow, width: Width, a: u64, b: u64) -> Option<u64>
+    ensures { result ≡ law.difference_by overflow (bits width) a b }
+{
+    match (overflow, width) {
+        (Overflow::Traps, Width::Word) => alu_sub(a, b),
+        (Overflow::Traps, Width::Double) => alu_dsub(a, b),
+        (Overflow::Wraps, Width::Word) => Some(alu_subu(a, b)),
+        (Overflow::Wraps, Width::Double) => Some(alu_dsubu(a, b)),
+    }
+}
+
+// The product, in two halves.
+fn product(signedness: Signedness, width: Width, a: u64, b: u64) -> Halves
+    ensures { result ≡ law.product_by signedness (bits width) a b }
+{
+    match (signedness, width) {
+        (Signedness::Signed, Width::Word) => alu_mult(a, b),
+        (Signedness::Signed, Width::Double) => alu_dmult(a, b),
+        (Signedness::Unsigned, Width::Word) => alu_multu(a, b),
+        (Signedness::Unsigned, Width::Double) => alu_dmultu(a, b),
+    }
+}
+
+// The remainder and the quotient.
+fn division(signedness: Signedness, width: Width, a: u64, b: u64) -> Halves
+    ensures { result ≡ law.division_by signedness (bits width) a b }
+{
+    match (signedness, width) {
+        (Signedness::Signed, Width::Word) => alu_div(a, b),
+        (Signedness::Signed, Width::Double) => alu_ddiv(a, b),
+        (Signedness::Unsigned, Width::Word) => alu_divu(a, b),
+        (Signedness::Unsigned, Width::Double) => alu_ddivu(a, b),
+    }
+}
+
+// rt shifted to the left.
+fn left_shift(width: Width, by: Amount, inst: &Inst, regs: &Regs) -> u64
+    requires rs { inst.now.rs < 32 }
+    requires rt { inst.now.rt < 32 }
+    requires sa { inst.now.sa < 32 }
+    requires within { IsTrue (amount_fits by width) }
+    ensures { result ≡ arithmetic.shifted_left (bits width) (operands.shifted inst.now regs.now) (operands.amount by width inst.now regs.now) }
+{
+    let value = regs.read(inst.rt);
+    let amount = amount(by, width, inst, regs);
+    match width {
+        Width::Word => alu_sll(value, amount),
+        Width::Double => alu_dsll(value, amount),
+    }
+}
+
+// rt shifted to the right, with zeros before it.
+fn logical_shift(width: Width, by: Amount, inst: &Inst, regs: &Regs) -> u64
+    requires rs { inst.now.rs < 32 }
+    requires rt { inst.now.rt < 32 }
+    requires sa { inst.now.sa < 32 }
+    requires within { IsTrue (amount_fits by width) }
+    ensures { result ≡ arithmetic.shifted_right_logical (bits width) (operands.shifted inst.now regs.now) (operands.amount by width inst.now regs.now) }
+{
+    let value = regs.read(inst.rt);
+    let amount = amount(by, width, inst, regs);
+    match width {
+        Width::Word => alu_srl(value, amount),
+        Width::Double => alu_dsrl(value, amount),
+    }
+}
+
+// rt shifted to the right, with copies of its sign before it.
+fn arithmetic_shift(width: Width, by: Amount, inst: &Inst, regs: &Regs) -> u64
+    requires rs { inst.now.rs < 32 }
+    requires rt { inst.now.rt < 32 }
+    requires sa { inst.now.sa < 32 }
+    requires within { IsTrue (amount_fits by width) }
+    ensures { result ≡ arithmetic.shifted_right_arithmetic (bits width) (operands.shifted inst.now regs.now) (operands.amount by width inst.now regs.now) }
+{
+    let value = regs.read(inst.rt);
+    let amount = amount(by, width, inst, regs);
+    match width {
+        Width::Word => alu_sra(value, amount),
+        Width::Double => alu_dsra(value, amount),
+    }
+}
+
+// A value into a register, or the overflow exception where there is none.
+fn set_or_overflow(reg: u8, value: Option<u64>) -> Effect
+    ensures { result ≡ law.set_or_overflow reg value }
+{
+    match value {
+        Some(value) => Effect::Set { reg, value },
+        None => Effect::Raise { code: 12, unit: 0 },
+    }
+}
+
+// HI and LO.
+fn to_hi_and_lo(halves: Halves) -> Effect
+    ensures { result ≡ law.to_hi_and_lo halves }
+{
+    Effect::HiLo {
+        hi: halves.hi,
+        lo: halves.lo,
+    }
+}
+
+// The trap exception under a condition.
+fn trap_where(condition: bool) -> Effect
+    ensures { result ≡ law.trap_where condition }
+{
+    if condition {
+        Effect::Raise { code: 13, unit: 0 }
+    } else {
+        Effect::Nothing
+    }
+}
+
+// Whether the delay slot is passed over where the branch is not taken.
+fn is_likely(slot: DelaySlot) -> bool
+    ensures { result ≡ law.is_likely slot }
+{
+    matches!(slot, DelaySlot::NullifiedUnlessTaken)
+}
+
+// The exception of a coprocessor that is not usable.
+fn unusable(coprocessor: Coprocessor) -> Effect
+    ensures { result ≡ law.unusable coprocessor }
+{
+    match coprocessor {
+        Coprocessor::One => Effect::Raise { code: 11, unit: 1 },
+        Coprocessor::Two => Effect::Raise { code: 11, unit: 2 },
+    }
+}
+
+// A value into a register.
+fn set(reg: u8, value: u64) -> Effect
+    ensures { result ≡ Effect.Set reg value }
+{
+    Effect::Set { reg, value }
+}
+
+// A jump or a branch.
+fn go(form: Form, inst: &Inst, regs: &Regs, pc: u32, taken: bool, likely: bool, link: Link) -> Effect
+    requires { HasFields form inst.now }
+    ensures { result ≡ law.go form inst.now regs.now pc taken likely link }
+{
+    Effect::Jump {
+        taken,
+        likely,
+        target: target(form, inst, regs, pc),
+        link: link_register(link, inst),
+        value: link_value(link, pc),
+    }
+}
+
+// An access to the bytes that an operation moves.
+fn access(kind: Touch, operation: Operation, form: Form, inst: &Inst, regs: &Regs) -> Effect
+    requires { HasFields form inst.now }
+    ensures { result ≡ law.access form inst.now regs.now kind operation }
+{
+    let va = address(form, inst, regs);
+    let reach = moved(operation, va);
+    Effect::Touch {
+        kind,
+        va,
+        first: reach.first,
+        size: reach.size,
+        reg: inst.rt,
+    }
+}
+
+// The effect of an operation on the operands of a form.
+#[tactic(auto, unfolding(crate::specs::Effects::carried_out))]
+fn carried_out(operation: Operation, form: Form, inst: &Inst, regs: &Regs, pc: u32) -> Effect
+    requires fields { HasFields form inst.now }
+    requires within { IsTrue (shifts_within operation) }
+    ensures { result ≡ law.carried_out form inst.now regs.now pc operation }
+{
+    let a = regs.read(inst.rs);
+    let b = second(form, inst, regs);
+    let reg = destination(form, inst);
+    match operation {
+        Jump(link) => go(form, inst, regs, pc, true, false, link),
+        Branch(comparison, slot, link) => {
+            go(form, inst, regs, pc, holds(comparison, a, b), is_likely(slot), link)
+        }
+        Add(width, overflow) => set_or_overflow(reg, sum(overflow, width, a, b)),
+        Subtract(width, overflow) => set_or_overflow(reg, difference(overflow, width, a, b)),
+        And => set(reg, alu_and(a, b)),
+        Or => set(reg, alu_or(a, b)),
+        ExclusiveOr => set(reg, alu_xor(a, b)),
+        NotOr => set(reg, alu_nor(a, b)),
+        SetWhere(comparison) => set(reg, u64::from(holds(comparison, a, b))),
+        LoadUpper => set(reg, sext32(inst.imm << 16)),
+        ShiftLeft(width, by) => set(reg, left_shift(width, by, inst, regs)),
+        ShiftRightLogical(width, by) => set(reg, logical_shift(width, by, inst, regs)),
+        ShiftRightArithmetic(width, by) => set(reg, arithmetic_shift(width, by, inst, regs)),
+        Multiply(width, signedness) => to_hi_and_lo(product(signedness, width, a, b)),
+        Divide(width, signedness) => to_hi_and_lo(division(signedness, width, a, b)),
+        MoveFromHi => set(reg, regs.hi),
+        MoveFromLo => set(reg, regs.lo),
+        MoveToHi => Effect::HiLo { hi: a, lo: regs.lo },
+        MoveToLo => Effect::HiLo { hi: regs.hi, lo: a },
+        TrapWhere(comparison) => trap_where(holds(comparison, a, b)),
+        SystemCall => Effect::Raise { code: 8, unit: 0 },
+        Breakpoint => Effect::Raise { code: 9, unit: 0 },
+        Synchronize => Effect::Nothing,
+        Load(..) | LoadLeft(_) | LoadRight(_) => access(Touch::Load, operation, form, inst, regs),
+        LoadLinked(_) => access(Touch::Link, operation, form, inst, regs),
+        Store(_) | StoreLeft(_) | StoreRight(_) => {
+            access(Touch::Store, operation, form, inst, regs)
+        }
+        StoreConditional(_) => access(Touch::Cond, operation, form, inst, regs),
+        OperateCache => access(Touch::Cache, operation, form, inst, regs),
+        UseCoprocessor(coprocessor) => unusable(coprocessor),
+        MoveFromCp0(_) | MoveToCp0(_) | ReadTlb | WriteIndexedTlb | WriteRandomTlb | ProbeTlb
+        | ReturnFromException => Effect::System { row: inst.row },
+    }
+}
