@@ -1,7 +1,7 @@
 -- Words as numbers below 2 ^ 32, the bits of a word that a mask names, and the fields high..low of a word.
 -- Source: MIPS R4000 Microprocessor User's Manual (Heinrich, 2nd edition), the operation notation of the instruction
 -- chapter, which writes a bit field as high..low.
-use Rattle.std.specs.Prelude.{◌≡◌, ℕ, ◌+◌, ◌-◌, ◌*◌, ◌/◌, ◌%◌, ◌^◌, bit_and, bit_or}
+use Rattle.std.specs.Prelude.{◌≡◌, ℕ, ◌+◌, ◌-◌, ◌/◌, ◌%◌, ◌^◌, bit_and, bit_or}
 
 -- each bit of a word
 abbrev pub all_bits : ℕ

@@ -2,7 +2,7 @@
 -- an interrupt is taken.
 -- Source: MIPS R4000 Microprocessor User's Manual (Heinrich, 2nd edition), chapter 4, "Operating Modes", and chapter 5, "Status
 -- Register" and "Interrupt Exception".
-use Rattle.std.specs.Prelude.{ℕ, Bool, ◌==◌, ◌+◌, ◌/◌, ◌%◌, ◌^◌, ◌&&◌, ◌||◌, if◌then◌else◌, List}
+use Rattle.std.specs.Prelude.{ℕ, Bool, ◌==◌, ◌/◌, ◌%◌, ◌^◌, ◌&&◌, ◌||◌, if◌then◌else◌, List}
 use Rattle.std.specs.List.{list_any, range_with_len}
 use Rattle.cp0_regs.specs.declared.mode.Mode.{Mode}
 use Rattle.cp0_regs.specs.declared.mode.Mode.TheVariants.{Kernel, Supervisor, User}
@@ -36,6 +36,9 @@ is_quiet cp0 = is_clear cp0 exl && is_clear cp0 erl && is_set cp0 bev
 abbrev pub is_pending : List ℕ → ℕ → Bool
 is_pending cp0 line = (value_of cp0 ip / 2 ^ line % 2 == 1) && (value_of cp0 im / 2 ^ line % 2 == 1)
 
+abbrev pub has_pending : List ℕ → Bool
+has_pending cp0 = list_any (is_pending cp0) (range_with_len 0 8)
+
 -- an interrupt is taken where interrupts are enabled, no exception or error is being handled, and some line is pending
 unfoldable pub takes_interrupt : List ℕ → Bool
-takes_interrupt cp0 = is_set cp0 ie && is_clear cp0 exl && is_clear cp0 erl && list_any (is_pending cp0) (range_with_len 0 8)
+takes_interrupt cp0 = is_set cp0 ie && is_clear cp0 exl && is_clear cp0 erl && has_pending cp0

@@ -36,9 +36,21 @@ impl Model for Cp0 {
     ghost invariant = { λ cp0. IsCp0 cp0.words };
 }
 
+// What a register takes of a value that is written to it.
+fn taken_by(number: u8, value: u32) -> u32
+    ensures taken { result ≡ moves.taken number value }
+    ensures page_mask { number ≡ 5 → IsMask result }
+{
+    if number == PAGE_MASK {
+        longest_run(value)
+    } else {
+        value
+    }
+}
+
 impl Cp0 {
     /// The registers at reset, with what the shape of the caches gives for Config.
-    #[tactic(auto, unfolding(crate::specs::Registers::reset_cp0))]
+    #[tactic(auto, using(crate::proofs::Possible::reset_possible), unfolding(crate::specs::Registers::reset_cp0))]
     pub fn new(config: u32) -> Cp0
         ensures reset { result ≡ reset_cp0 config }
     {
@@ -51,6 +63,7 @@ impl Cp0 {
     }
 
     /// A register.
+    #[tactic(auto, using(crate::proofs::Masking::none_only), unfolding(crate::specs::Registers::possible_bits))]
     pub fn read(&self, number: u8) -> u32
         requires number { number < 32 }
         ensures value { result ≡ slice_index self.now number }
@@ -84,6 +97,7 @@ impl Cp0 {
     }
 
     /// Makes a field a number.
+    #[tactic(auto, using(crate::proofs::Masking::merged_only, crate::proofs::Masking::and_of_shifted))]
     pub fn set_field(&mut self, field: Field, value: u32)
         requires field { IsFree field }
         ensures set { self.new ≡ with_value self.old field value }
@@ -94,7 +108,7 @@ impl Cp0 {
     }
 
     /// What MTC0 does.
-    #[tactic(auto, unfolding(crate::specs::Moves::written))]
+    #[tactic(auto, using(crate::proofs::Masking::merged_only, crate::proofs::Possible::written_possible, crate::proofs::Possible::timer_line_is_free, crate::proofs::Possible::pair_possible, crate::proofs::Writes::random_stays, crate::proofs::Writes::mask_taken, crate::proofs::Writes::write_is_lost), unfolding(crate::specs::Moves::written))]
     pub fn write(&mut self, number: u8, value: u32)
         requires number { number < 32 }
         ensures written { self.new ≡ moves.written self.old number value }
@@ -102,11 +116,7 @@ impl Cp0 {
     {
         let bits = written_bits(number);
         let word = self.read(number);
-        let taken = if number == PAGE_MASK {
-            longest_run(value)
-        } else {
-            value
-        };
+        let taken = taken_by(number, value);
         self.set(number, word & !bits | taken & bits);
         match number {
             WIRED => self.set(RANDOM, LAST_PAIR),
@@ -116,6 +126,7 @@ impl Cp0 {
     }
 
     /// Gives the devices' lines, IP2 to IP6, these levels.
+    #[tactic(auto, using(crate::proofs::Possible::device_lines_is_free))]
     pub fn lines(&mut self, levels: u8)
         requires levels { levels < 32 }
         ensures lines { self.new ≡ counting.with_lines self.old levels }
@@ -123,23 +134,49 @@ impl Cp0 {
         self.set_field(DEVICE_LINES, u32::from(levels));
     }
 
-    /// The end of a tick: Count, the timer, and Random.
-    #[tactic(auto, unfolding(crate::specs::Counting::counted))]
-    pub fn count(&mut self, wired: bool)
-        ensures counted { self.new ≡ counting.counted self.old wired }
+    // Count grows by one.
+    #[tactic(auto, using(crate::proofs::Possible::count_possible))]
+    fn grow_count(&mut self)
+        ensures counted { self.new ≡ counting.with_count self.old }
     {
         let count = self.read(COUNT).wrapping_add(1);
         self.set(COUNT, count);
-        if count == self.read(COMPARE) {
+    }
+
+    // The timer asks for an interrupt where Count is Compare.
+    #[tactic(auto, using(crate::proofs::Possible::timer_line_is_free))]
+    fn compare_timer(&mut self)
+        ensures compared { self.new ≡ counting.with_timer self.old }
+    {
+        let count = self.read(COUNT);
+        let compare = self.read(COMPARE);
+        if count == compare {
             self.set_field(TIMER_LINE, 1);
         }
+    }
+
+    // Random falls, or is at the last pair again.
+    #[tactic(auto, using(crate::proofs::Possible::pair_possible))]
+    fn lower_random(&mut self, wired: bool)
+        ensures lowered { self.new ≡ counting.with_random self.old wired }
+    {
         let random = self.read(RANDOM);
-        let wired_pair = self.read(WIRED);
-        let next = if wired || random == wired_pair || random == 0 {
+        let lowest = self.read(WIRED);
+        let next = if wired || random == lowest || random == 0 {
             LAST_PAIR
         } else {
             random - 1
         };
         self.set(RANDOM, next);
+    }
+
+    /// The end of a tick, which wrote Wired or did not: Count, the timer, and Random.
+    #[tactic(auto, unfolding(crate::specs::Counting::counted))]
+    pub fn count(&mut self, wired: bool)
+        ensures counted { self.new ≡ counting.counted self.old wired }
+    {
+        self.grow_count();
+        self.compare_timer();
+        self.lower_random(wired);
     }
 }

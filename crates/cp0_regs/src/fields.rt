@@ -15,6 +15,7 @@ pub struct Field {
 
 impl Field {
     /// The bits of the field.
+    #[tactic(auto, using(crate::proofs::FieldBits::low_below_high))]
     pub fn bits(self) -> u32
         requires order { self.low ≤ self.high }
         requires in_word { self.high < 32 }

@@ -70,6 +70,14 @@ impl Cp0 {
         exception_level == 0 && error_level == 0 && boot_vectors == 1
     }
 
+    // Whether some line asks for an interrupt, and may interrupt.
+    #[tactic(auto, using(crate::proofs::Pending::common_bit))]
+    fn has_pending(&self) -> bool
+        ensures pending { result ≡ law.has_pending self.now }
+    {
+        self.field(IP) & self.field(IM) != 0
+    }
+
     /// Whether an interrupt is taken.
     #[tactic(auto, unfolding(crate::specs::Modes::takes_interrupt))]
     pub fn takes_interrupt(&self) -> bool
@@ -78,8 +86,7 @@ impl Cp0 {
         let enabled = self.field(IE);
         let exception_level = self.field(EXL);
         let error_level = self.field(ERL);
-        let pending = self.field(IP) & self.field(IM);
-        enabled == 1 && exception_level == 0 && error_level == 0 && pending != 0
+        enabled == 1 && exception_level == 0 && error_level == 0 && self.has_pending()
     }
 
     /// Random.

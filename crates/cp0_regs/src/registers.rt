@@ -4,24 +4,43 @@ ghost use Rattle.std.specs.Prelude.{◌≡◌};
 ghost use Rattle.cp0_regs.specs.Registers as law;
 
 pub const INDEX: u8 = 0;
+
 pub const RANDOM: u8 = 1;
+
 pub const ENTRY_LO0: u8 = 2;
+
 pub const ENTRY_LO1: u8 = 3;
+
 pub const CONTEXT: u8 = 4;
+
 pub const PAGE_MASK: u8 = 5;
+
 pub const WIRED: u8 = 6;
+
 pub const BAD_VADDR: u8 = 8;
+
 pub const COUNT: u8 = 9;
+
 pub const ENTRY_HI: u8 = 10;
+
 pub const COMPARE: u8 = 11;
+
 pub const STATUS: u8 = 12;
+
 pub const CAUSE: u8 = 13;
+
 pub const EPC: u8 = 14;
+
 pub const PRID: u8 = 15;
+
 pub const CONFIG: u8 = 16;
+
 pub const LL_ADDR: u8 = 17;
+
 pub const TAG_LO: u8 = 28;
+
 pub const TAG_HI: u8 = 29;
+
 pub const ERROR_EPC: u8 = 30;
 
 /// The numbers of the registers in the order in which they are shown, four in a line.
