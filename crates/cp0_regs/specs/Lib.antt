@@ -1,0 +1,8 @@
+pub mod Bits
+pub mod PageMasks
+pub mod Fields
+pub mod Registers
+pub mod State
+pub mod Moves
+pub mod Counting
+pub mod Modes
