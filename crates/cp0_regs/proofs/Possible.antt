@@ -76,8 +76,6 @@ pub vpn2_is_free : IsFree vpn2
 unfolding possible_bits
 vpn2_is_free = free vpn2 (omega arith) (omega arith) (omega arith) refl (λ same. omega arith) (λ same. omega arith)
 
-pub ruleset free_fields = (timer_line_is_free, device_lines_is_free, exc_code_is_free, ce_is_free, bd_is_free, exl_is_free, erl_is_free, bad_vpn2_is_free, vpn2_is_free)
-
 -- ---- the registers at reset
 abbrev pub AllPossible : List ℕ → Type 0
 AllPossible cp0 = (number : ℕ) → HasOnly (slice_index cp0 number) (possible_bits number)
@@ -87,10 +85,22 @@ pub pair_possible : (number : ℕ) → number ≤ 47 → HasOnly number (possibl
 unfolding possible_bits
 pair_possible number small = pair_only number small
 
--- each word can stand in Count
+-- each word can stand in BadVAddr, Count, EPC and LLAddr
+pub bad_vaddr_possible : (number : ℕ) → number < 2 ^ 32 → HasOnly number (possible_bits 8)
+unfolding possible_bits
+bad_vaddr_possible number small = word_only number small
+
 pub count_possible : (number : ℕ) → number < 2 ^ 32 → HasOnly number (possible_bits 9)
 unfolding possible_bits
 count_possible number small = word_only number small
+
+pub epc_possible : (number : ℕ) → number < 2 ^ 32 → HasOnly number (possible_bits 14)
+unfolding possible_bits
+epc_possible number small = word_only number small
+
+pub ll_addr_possible : (number : ℕ) → number < 2 ^ 32 → HasOnly number (possible_bits 17)
+unfolding possible_bits
+ll_addr_possible number small = word_only number small
 
 zero_possible : (possible : ℕ) → HasOnly 0 possible
 zero_possible possible = record { is = refl }

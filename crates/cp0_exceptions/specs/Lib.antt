@@ -1,0 +1,3 @@
+pub mod Causes
+pub mod Raising
+pub mod Leaving
