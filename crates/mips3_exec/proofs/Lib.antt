@@ -1,2 +1,6 @@
 pub mod Pieces
 pub mod Positions
+pub mod TableFacts
+pub mod EffectFacts
+pub mod Talks
+pub mod System

@@ -2,3 +2,10 @@ pub mod Operands
 pub mod Accesses
 pub mod Effects
 pub mod Ranges
+pub mod Talk
+pub mod Processor
+pub mod Routes
+pub mod References
+pub mod SystemControl
+pub mod Step
+pub mod Tick

@@ -1,0 +1,64 @@
+-- A processor's talk with a memory system. What a processor does in a tick is said without any memory: it is done,
+-- or it asks one request and goes on with the reply. A memory system is a type with a function from what it is and
+-- a request to what it is then and its reply. This is the free-monad form of an instruction set's semantics, as Sail
+-- has it for its models.
+use Rattle.std.specs.Prelude.{ℕ, Bool, true, false, ◌≡◌, ◌==◌, ◌&&◌, nat_lt, nat_le, ◌<◌, ◌+◌, ◌%◌, ◌^◌}
+use Rattle.mips3_exec.specs.declared.processor.Cpu.{Cpu}
+use Rattle.mips3_exec.specs.declared.talk.Access.{Access}
+use Rattle.mips3_exec.specs.declared.talk.StepEnd.{StepEnd}
+use Rattle.mips3_exec.specs.declared.talk.Request.{Request}
+use Rattle.mips3_exec.specs.declared.talk.Request.TheVariants.{Inputs, Beat, Levels, Fetch, Load, Store, Cache}
+use Rattle.mips3_exec.specs.declared.talk.Reply.{Reply}
+use Rattle.mips3_exec.specs.declared.talk.Reply.TheVariants as reply
+
+-- a talk: done with this processor, and how it ended, or one request and how it goes on
+pub data Talk : Type 0 where
+  Done : Cpu → StepEnd → Talk
+  Ask : Request → (Reply → Talk) → Talk
+
+-- what a memory system is after a request, and its reply
+pub record Outcome (M : Type 0) : Type 0 where
+  pub memory : M
+  pub reply : Reply
+
+-- what a talk comes to: the processor and the memory system afterwards, and how it ended
+pub record Held (M : Type 0) : Type 0 where
+  pub cpu : Cpu
+  pub end : StepEnd
+  pub memory : M
+
+-- a talk held with one memory system
+abbrev pub hold : {M : Type 0} → (M → Request → Outcome M) → M → Talk → Held M
+hold ask memory (Done cpu end) = record { cpu = cpu; end = end; memory = memory }
+hold ask memory (Ask request next) = hold ask (ask memory request).memory (next (ask memory request).reply)
+
+-- a talk, and what comes after it, by the processor and the end that it has then
+abbrev pub and_then : Talk → (Cpu → StepEnd → Talk) → Talk
+and_then (Done cpu end) more = more cpu end
+and_then (Ask request next) more = Ask request (λ reply. and_then (next reply) more)
+
+-- the bytes of an access lie in one aligned doubleword, at a physical address of 36 bits whose place in its page is the
+-- virtual one's
+abbrev pub is_access : Access → ℕ → Bool
+is_access access size =
+    (access.va % 4096 == access.pa % 4096) && (nat_lt access.pa (2 ^ 36) && (nat_le 1 size && nat_le (access.pa % 8 + size) 8))
+
+-- the requests that a processor makes
+abbrev pub is_asked : Request → Bool
+is_asked (Inputs tick) = true
+is_asked Beat = true
+is_asked Levels = true
+is_asked (Fetch access) = is_access access 4 && (access.pa % 4 == 0)
+is_asked (Load access size) = is_access access size
+is_asked (Store access size value) = is_access access size && nat_lt value (256 ^ size)
+is_asked (Cache access code tag) = is_access access 1 && nat_lt code 32
+
+pub record IsAsked (request : Request) : Type 0 where
+  pub is : is_asked request ≡ true
+
+-- a reply that a request may have: its numbers are in range
+abbrev pub IsAnswer : Request → Reply → Type 0
+IsAnswer Levels (reply.Levels levels) = levels < 32
+IsAnswer (Fetch access) (reply.Value value) = value < 2 ^ 32
+IsAnswer (Load access size) (reply.Value value) = value < 256 ^ size
+IsAnswer _ _ = Unit {0}
