@@ -2,7 +2,7 @@
 -- after some of its bytes were replaced.
 -- Source: MIPS R4000 Microprocessor User's Manual (Heinrich, 2nd edition), byte numbering in big-endian
 -- configuration.
-use Rattle.std.specs.Prelude.{ℕ, ◌+◌, ◌*◌, ◌/◌, ◌%◌, ◌^◌, List, [], ◌∷◌, ◌++◌, take, drop, replicate, length, slice_index}
+use Rattle.std.specs.Prelude.{ℕ, ◌+◌, ◌*◌, ◌/◌, ◌%◌, ◌^◌, List, [], ◌∷◌, ◌++◌, take, drop, fold, replicate, length, slice_index}
 
 -- so many zero bytes
 unfoldable pub zeros_of : ℕ → List ℕ
@@ -28,6 +28,14 @@ bytes_of word = word / 2 ^ 24 % 256 ∷ word / 2 ^ 16 % 256 ∷ word / 2 ^ 8 % 2
 -- so many bytes from a place on
 abbrev pub bytes_at : List ℕ → ℕ → ℕ → List ℕ
 bytes_at all at count = take count (drop at all)
+
+-- the number whose bytes these are, the high one first
+abbrev pub number_of_bytes : List ℕ → ℕ
+number_of_bytes bytes = fold (λ high byte. high * 256 + byte) 0 bytes
+
+-- the number that stands in so many bytes from a place on
+abbrev pub number_at : List ℕ → ℕ → ℕ → ℕ
+number_at all at count = number_of_bytes (bytes_at all at count)
 
 -- the list with these bytes in place of those from a place on
 abbrev pub put_bytes : List ℕ → ℕ → List ℕ → List ℕ

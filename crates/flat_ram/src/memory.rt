@@ -1,5 +1,6 @@
 // The RAM, seen as the list of its bytes, and the PROM's words.
 ghost use Rattle.std.specs.Prelude.{◌≡◌, ◌+◌, ◌*◌, ◌/◌, ◌%◌, ◌^◌, ◌<◌, ◌≤◌, ◌-◌, ◌++◌, List, ℕ, length, slice_index, slice_set, IfOk};
+ghost use Rattle.std.specs.Int.{bytes_high_first};
 ghost use Rattle.flat_ram.specs.Bytes as law;
 ghost use Rattle.flat_ram.specs.Map.{ram_size};
 
@@ -44,6 +45,16 @@ fn put_bytes(all: &mut [u8], at: usize, bytes: &[u8])
     ensures { all.new ≡ law.put_bytes all.old at bytes.now }
 {
     all[at..at + bytes.len()].copy_from_slice(bytes);
+}
+
+// Replaces up to eight bytes by the low bytes of a number.
+#[tactic(auto, using(crate::proofs::Numbers::low_bytes, crate::proofs::Numbers::length_bytes))]
+fn put_number(all: &mut [u8], at: usize, count: usize, number: u64)
+    requires most { count ≤ 8 }
+    requires room { at + count ≤ length all.old }
+    ensures { all.new ≡ law.put_bytes all.old at (bytes_high_first count number) }
+{
+    put_bytes(all, at, &number.to_be_bytes()[8 - count..]);
 }
 
 #[tactic(auto, unfolding(crate::specs::Bytes::zeros_of))]
@@ -121,6 +132,25 @@ impl Ram {
         ensures { self.new ≡ law.put_bytes self.old pa (law.bytes_of word) }
     {
         put_bytes(&mut self.bytes, pa as usize, &word.to_be_bytes());
+    }
+
+    /// The number that stands in up to eight bytes from an address on, the high byte first.
+    pub fn number(&self, pa: u64, size: u8) -> u64
+        requires most { size ≤ 8 }
+        requires room { pa + size ≤ ram_size }
+        ensures value { result ≡ law.number_at self.now pa size }
+        ensures fits { result < 256 ^ size }
+    {
+        big_endian::number_at(&self.bytes, pa as usize, size as usize)
+    }
+
+    /// Replaces up to eight bytes from an address on by the low bytes of a number, the high one first.
+    pub fn set_number(&mut self, pa: u64, size: u8, number: u64)
+        requires most { size ≤ 8 }
+        requires room { pa + size ≤ ram_size }
+        ensures { self.new ≡ law.put_bytes self.old pa (bytes_high_first size number) }
+    {
+        put_number(&mut self.bytes, pa as usize, size as usize, number);
     }
 
     /// Replaces so many bytes from an address on: by the bytes given, and then by zeros.
