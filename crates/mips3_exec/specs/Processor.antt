@@ -10,7 +10,7 @@ use Rattle.cp0_exceptions.specs.declared.raising.Raised.{Raised}
 use Rattle.cp0_exceptions.specs.Raising.{raised, vector_of}
 use Rattle.cp0_exceptions.specs.Leaving.{left, return_of}
 use Rattle.ll_sc.specs.Linking.{unlinked}
-use Rattle.tlb_model.specs.Translation.{zero_pairs}
+use Rattle.tlb_model.specs.Pairs.{zero_pairs}
 use Rattle.mips3_exec.specs.declared.processor.Cpu.{Cpu}
 
 -- the state at reset: the processor begins at the reset vector, in no delay slot

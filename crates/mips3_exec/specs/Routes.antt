@@ -7,12 +7,12 @@ use Rattle.cp0_regs.specs.Modes.{mode_of, is_set, is_quiet}
 use Rattle.cp0_regs.specs.State.{value_of}
 use Rattle.cp0_exceptions.specs.declared.raising.Raised.{Raised}
 use Rattle.cp0_exceptions.specs.Causes.{IsRaised}
-use Rattle.tlb_model.specs.declared.Found.{Found}
-use Rattle.tlb_model.specs.declared.Found.TheVariants.{Page, Refill, Invalid, Modified}
-use Rattle.tlb_model.specs.declared.Seg.{Seg}
-use Rattle.tlb_model.specs.declared.Seg.TheVariants.{Mapped, Direct, Denied}
-use Rattle.tlb_model.specs.Masks.{IsPlace}
-use Rattle.tlb_model.specs.Translation.{segment_of, translated}
+use Rattle.tlb_model.specs.declared.translation.Found.{Found}
+use Rattle.tlb_model.specs.declared.translation.Found.TheVariants.{Page, Refill, Invalid, Modified}
+use Rattle.tlb_model.specs.declared.segments.Seg.{Seg}
+use Rattle.tlb_model.specs.declared.segments.Seg.TheVariants.{Mapped, Direct, Denied}
+use Rattle.tlb_model.specs.Segments.{segment_of}
+use Rattle.tlb_model.specs.Translation.{IsPlace, translated}
 use Rattle.mips3_exec.specs.declared.processor.Cpu.{Cpu}
 use Rattle.mips3_exec.specs.declared.routes.Route.{Route}
 use Rattle.mips3_exec.specs.declared.routes.Route.TheVariants.{To, Fault}

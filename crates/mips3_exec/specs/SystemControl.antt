@@ -12,8 +12,9 @@ use Rattle.mips3_alu.specs.Registers.{low_word}
 use Rattle.cp0_regs.specs.Moves.{written}
 use Rattle.cp0_regs.specs.Registers.{index, random, entry_lo0, entry_lo1, page_mask, wired, entry_hi}
 use Rattle.cp0_regs.specs.State.{word, with_word}
-use Rattle.tlb_model.specs.declared.Pair.{Pair}
-use Rattle.tlb_model.specs.Translation.{zero_pair, pair_at, first_match, asid_of}
+use Rattle.tlb_model.specs.declared.pairs.Pair.{Pair}
+use Rattle.tlb_model.specs.Pairs.{zero_pair, pair_at, stored_pair, asid_of}
+use Rattle.tlb_model.specs.Translation.{first_index}
 use Rattle.mips3_exec.specs.declared.processor.Cpu.{Cpu}
 use Rattle.mips3_exec.specs.declared.talk.StepEnd.{StepEnd}
 use Rattle.mips3_exec.specs.declared.talk.StepEnd.TheVariants.{Went, WroteWired}
@@ -37,18 +38,9 @@ with_pair cpu pair = record cpu {
   cp0 = with_word (with_word (with_word (with_word cpu.cp0 page_mask pair.mask) entry_hi pair.hi) entry_lo0 pair.lo0) entry_lo1 pair.lo1;
 }
 
--- a pair is global where both its pages are
-abbrev pub global_bit : Cpu → ℕ
-global_bit cpu = (word cpu.cp0 entry_lo0 % 2) * (word cpu.cp0 entry_lo1 % 2)
-
--- the pair that the registers of CP0 hold: its page number without the bits of the mask, and one global bit for both pages
+-- the pair that is stored of the registers of CP0
 abbrev pub held_pair : Cpu → Pair
-held_pair cpu = record {
-  mask = word cpu.cp0 page_mask;
-  hi = bit_and (word cpu.cp0 entry_hi) (2 ^ 32 - 1 - word cpu.cp0 page_mask);
-  lo0 = word cpu.cp0 entry_lo0 / 2 * 2 + global_bit cpu;
-  lo1 = word cpu.cp0 entry_lo1 / 2 * 2 + global_bit cpu;
-}
+held_pair cpu = stored_pair (word cpu.cp0 page_mask) (word cpu.cp0 entry_hi) (word cpu.cp0 entry_lo0) (word cpu.cp0 entry_lo1)
 
 -- the TLB with that pair at an index, where there is one of it
 abbrev pub with_entry : Cpu → ℕ → Cpu
@@ -69,7 +61,7 @@ indexed cpu = word cpu.cp0 index % 2 ^ 6
 
 -- the search for EntryHi
 abbrev pub search : Cpu → Option ℕ
-search cpu = first_match (word cpu.cp0 entry_hi) (asid_of (word cpu.cp0 entry_hi)) 0 cpu.tlb
+search cpu = first_index cpu.tlb (word cpu.cp0 entry_hi) (asid_of (word cpu.cp0 entry_hi))
 
 -- ---- all of them
 

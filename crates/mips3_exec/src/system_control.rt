@@ -1,34 +1,32 @@
 //! The instructions of coprocessor 0.
 
 ghost use Rattle.std.specs.Prelude.{◌≡◌, ◌<◌};
+ghost use Rattle.cp0_regs.specs.Bits.{HasOnly};
+ghost use Rattle.cp0_regs.specs.Registers.{possible_bits};
 ghost use Rattle.mips3_exec.specs.SystemControl as law;
-ghost use Rattle.tlb_model.specs.Masks.{IsPair};
+ghost use Rattle.tlb_model.specs.Pairs.{IsPair};
 
 use crate::processor::Cpu;
 use crate::talk::StepEnd;
 use cp0_regs::registers::{ENTRY_HI, ENTRY_LO0, ENTRY_LO1, INDEX, PAGE_MASK, WIRED};
 use mips3_table::{Inst, Operation};
 use r4_words::sext32;
-use tlb_model::Pair;
+use tlb_model::{Pair, stored_pair, zero_pair};
 
 /// How many pairs the TLB has.
 const PAIRS: u32 = 48;
 
-// The pair that the registers of CP0 hold.
+// The pair that the registers of CP0 hold, as it is stored.
+#[tactic(auto, using(crate::proofs::System::hi_bits_only, crate::proofs::System::lo0_bits_only, crate::proofs::System::lo1_bits_only))]
 fn held_pair(cpu: &Cpu) -> Pair
     ensures pair { result ≡ law.held_pair cpu.now }
-    ensures is_pair { IsPair result }
+    ensures storable { IsPair result }
 {
     let mask = cpu.cp0.page_mask();
+    let hi = cpu.cp0.read(ENTRY_HI);
     let lo0 = cpu.cp0.read(ENTRY_LO0);
     let lo1 = cpu.cp0.read(ENTRY_LO1);
-    let global = lo0 % 2 * (lo1 % 2);
-    Pair {
-        mask,
-        hi: cpu.cp0.read(ENTRY_HI) & !mask,
-        lo0: lo0 / 2 * 2 + global,
-        lo1: lo1 / 2 * 2 + global,
-    }
+    stored_pair(mask, hi, lo0, lo1)
 }
 
 // Stores that pair at an index, where there is one of it.
@@ -44,20 +42,16 @@ fn write_entry(cpu: &mut Cpu, at: u32)
 // The pair at an index, zeros past the last.
 fn entry_at(cpu: &Cpu, at: u32) -> Pair
     ensures pair { result ≡ law.entry_at cpu.now.tlb at }
-    ensures is_pair { IsPair result }
+    ensures storable { IsPair result }
 {
     if at < PAIRS {
         return cpu.tlb.read(at);
     }
-    Pair {
-        mask: 0,
-        hi: 0,
-        lo0: 0,
-        lo1: 0,
-    }
+    zero_pair()
 }
 
 // Puts a pair into the registers of CP0.
+#[tactic(auto, using(crate::proofs::System::mask_possible, crate::proofs::System::hi_possible, crate::proofs::System::lo0_possible, crate::proofs::System::lo1_possible))]
 fn show_pair(cpu: &mut Cpu, pair: Pair)
     requires { IsPair pair }
     ensures shown { cpu.new ≡ law.with_pair cpu.old pair }
@@ -76,8 +70,10 @@ fn indexed(cpu: &Cpu) -> u32
 }
 
 // What Index shows of a search for EntryHi.
+#[tactic(auto, using(crate::proofs::System::index_possible, crate::proofs::System::none_possible))]
 fn probed(cpu: &Cpu) -> u32
     ensures index { result ≡ law.probed (law.search cpu.now) }
+    ensures possible { HasOnly result (possible_bits 0) }
 {
     match cpu.tlb.probe(cpu.cp0.read(ENTRY_HI)) {
         Some(at) => at,

@@ -2,8 +2,8 @@
 use Rattle.std.proofs.Common.{◌≡◌, ℕ, suc, ◌+◌, ◌<◌, ◌≤◌, get_or, ◌*◌, List, [], ◌∷◌, ◌++◌, take, drop, length, refl, sym, ap, ◌∙◌, add-one, arith, append_assoc, append-nil}
 use Rattle.std.proofs.lemmas.List.{take_more, length-take}
 use Rattle.mips3_alu.specs.declared.registers.Regs.{Regs}
-use Rattle.tlb_model.specs.declared.Pair.{Pair}
-use Rattle.tlb_model.specs.Translation.{pair_at}
+use Rattle.tlb_model.specs.declared.pairs.Pair.{Pair}
+use Rattle.tlb_model.specs.Pairs.{pair_at}
 use Rattle.run_report.specs.Report.{register_lines, register_line, system_lines, system_line, pair_lines, pair_line, bytes_lines, bytes_line}
 
 pub register_lines_none : (regs : Regs) → register_lines regs 0 ≡ []

@@ -5,8 +5,8 @@ use Rattle.std.specs.List.{flat_map}
 use Rattle.r4_words.specs.Texts.{hex_of, dec_of}
 use Rattle.mips3_alu.specs.declared.registers.Regs.{Regs}
 use Rattle.cp0_regs.specs.Registers.{numbers}
-use Rattle.tlb_model.specs.declared.Pair.{Pair}
-use Rattle.tlb_model.specs.Translation.{pair_at}
+use Rattle.tlb_model.specs.declared.pairs.Pair.{Pair}
+use Rattle.tlb_model.specs.Pairs.{pair_at}
 use Rattle.mips3_alu.specs.Registers.{register}
 use Rattle.run_report.specs.Shown.{Shown}
 

@@ -1,7 +1,7 @@
 -- What a view shows of a machine's state.
 use Rattle.std.specs.Prelude.{ℕ, Bool, List, Option}
 use Rattle.mips3_alu.specs.declared.registers.Regs.{Regs}
-use Rattle.tlb_model.specs.declared.Pair.{Pair}
+use Rattle.tlb_model.specs.declared.pairs.Pair.{Pair}
 use Rattle.run_report.specs.declared.view.View.{View}
 
 -- the fields of a view, as values: CP0 as its 32 words by number, the TLB as its pairs

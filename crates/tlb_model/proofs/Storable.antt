@@ -79,7 +79,7 @@ hi_only mask hi is only = record {
 }
 
 -- zero pairs are pairs
-zero_is_pair : IsPair zero_pair
+pub zero_is_pair : IsPair zero_pair
 zero_is_pair = record {
   mask = record { is = refl };
   hi = record { is = refl };

@@ -10,6 +10,6 @@ mod pairs;
 mod segments;
 mod translation;
 
-pub use pairs::{Pair, Tlb, stored_pair};
+pub use pairs::{Pair, Tlb, stored_pair, zero_pair};
 pub use segments::{Seg, segment};
 pub use translation::Found;

@@ -20,6 +20,22 @@ pub struct Pair {
     pub lo1: u32,
 }
 
+const ZERO: Pair = Pair {
+    mask: 0,
+    hi: 0,
+    lo0: 0,
+    lo1: 0,
+};
+
+/// A pair that is all zero.
+#[tactic(auto, using(crate::proofs::Storable::zero_is_pair))]
+pub fn zero_pair() -> Pair
+    ensures pair { result ≡ law.zero_pair }
+    ensures storable { IsPair result }
+{
+    ZERO
+}
+
 /// The pair that is stored of these registers: the page number without the bits under the mask, and one G for both pages.
 #[tactic(auto, using(crate::proofs::Storable::stored_is_pair))]
 pub fn stored_pair(mask: u32, hi: u32, lo0: u32, lo1: u32) -> Pair
@@ -63,13 +79,9 @@ impl Tlb {
     pub fn new() -> Tlb
         ensures zero { result ≡ law.zero_pairs }
     {
-        let zero = Pair {
-            mask: 0,
-            hi: 0,
-            lo0: 0,
-            lo1: 0,
-        };
-        Tlb { pairs: [zero; 48] }
+        Tlb {
+            pairs: [ZERO; 48],
+        }
     }
 
     /// The pair at an index.
