@@ -1,2 +1,4 @@
 pub mod Pieces
 pub mod Positions
+pub mod TableFacts
+pub mod EffectFacts

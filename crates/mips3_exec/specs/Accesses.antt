@@ -49,7 +49,7 @@ left n va = record { first = va; size = n - va % n; place = 8 - n; unit = n; ali
 abbrev pub right : ℕ → ℕ → Moved
 right n va = record { first = va - va % n; size = va % n + 1; place = 7 - va % n; unit = n; alignment = 1 }
 
--- the bytes that an operation moves at an address; a cache operation moves none, and is aimed at the byte there
+-- The bytes that an operation moves at an address. What is not listed moves none; a cache operation is aimed at the byte there.
 abbrev pub moved : Operation → ℕ → Moved
 moved (Load size signedness) va = whole (bytes_of_size size) va
 moved (LoadLeft width) va = left (bytes_of_width width) va

@@ -60,24 +60,28 @@ abbrev pub division_by : Signedness → ℕ → ℕ → ℕ → Halves
 division_by Signed width a b = division width a b
 division_by Unsigned width a b = division_unsigned width a b
 
--- a value that was found goes to a register, and where there is none the overflow exception (12) is raised
+-- an exception, by its code in Cause: 8 system call, 9 breakpoint, 11 coprocessor unusable, 12 overflow, 13 trap
+abbrev pub exception : ℕ → Effect
+exception code = effect.Raise code 0
+
+-- a value that was found goes to a register, and where there is none the overflow exception is raised
 abbrev pub set_or_overflow : ℕ → Option ℕ → Effect
 set_or_overflow reg (Some value) = effect.Set reg value
-set_or_overflow reg None = effect.Raise 12 0
+set_or_overflow reg None = exception 12
 
 abbrev pub to_hi_and_lo : Halves → Effect
 to_hi_and_lo halves = effect.HiLo halves.hi halves.lo
 
--- the trap exception (13) under a condition
+-- the trap exception under a condition
 abbrev pub trap_where : Bool → Effect
-trap_where condition = if condition then effect.Raise 13 0 else effect.Nothing
+trap_where condition = if condition then exception 13 else effect.Nothing
 
 -- a branch likely
 abbrev pub is_likely : DelaySlot → Bool
 is_likely AlwaysExecuted = false
 is_likely NullifiedUnlessTaken = true
 
--- the exception of a coprocessor that is not usable (11), with the coprocessor's number
+-- the exception of a coprocessor that is not usable, with its number
 abbrev pub unusable : Coprocessor → Effect
 unusable One = effect.Raise 11 1
 unusable Two = effect.Raise 11 2
@@ -128,8 +132,8 @@ module _ (form : Form) (inst : Inst) (regs : Regs) where
     carried_out MoveToHi = effect.HiLo a regs.lo
     carried_out MoveToLo = effect.HiLo regs.hi a
     carried_out (TrapWhere comparison) = trap_where (holds comparison a b)
-    carried_out SystemCall = effect.Raise 8 0
-    carried_out Breakpoint = effect.Raise 9 0
+    carried_out SystemCall = exception 8
+    carried_out Breakpoint = exception 9
     carried_out Synchronize = effect.Nothing
     carried_out (Load size signedness) = access touch.Load (Load size signedness)
     carried_out (LoadLeft width) = access touch.Load (LoadLeft width)

@@ -6,9 +6,15 @@ pub enum Effect {
     /// Nothing.
     Nothing,
     /// A value into a register; one into register 0 is lost.
-    Set { reg: u8, value: u64 },
+    Set {
+        reg: u8,
+        value: u64,
+    },
     /// Values into HI and LO.
-    HiLo { hi: u64, lo: u64 },
+    HiLo {
+        hi: u64,
+        lo: u64,
+    },
     /// A jump or a branch: whether it is taken, whether the delay slot is passed over where it is not, where it goes, and the
     /// register and the value of its link. The link is set whether it is taken or not; its register is 0 where there is none.
     Jump {
@@ -28,9 +34,14 @@ pub enum Effect {
         reg: u8,
     },
     /// What the row does is left to coprocessor 0.
-    System { row: u8 },
+    System {
+        row: u8,
+    },
     /// An exception by its code, with the coprocessor that it concerns, or 0.
-    Raise { code: u8, unit: u8 },
+    Raise {
+        code: u8,
+        unit: u8,
+    },
 }
 
 /// The kinds of access.

@@ -5,7 +5,9 @@ ghost use Rattle.mips3_alu.specs.Arithmetic as arithmetic;
 ghost use Rattle.mips3_exec.specs.Operands as operands;
 ghost use Rattle.mips3_exec.specs.Operands.{bits};
 ghost use Rattle.mips3_exec.specs.Effects as law;
-ghost use Rattle.mips3_exec.specs.Ranges.{HasFields, amount_fits, shifts_within};
+ghost use Rattle.mips3_exec.specs.Effects.{operation_of};
+ghost use Rattle.mips3_table.specs.Instructions.{IsInst};
+ghost use Rattle.mips3_exec.specs.Ranges.{HasFields, HasRegisters, LeavesSystem, RaisesItsOwn, TouchesFew, TouchesMoved, amount_fits, shifts_within};
 
 use crate::accesses::moved;
 use crate::effects::{Effect, Touch};
@@ -25,9 +27,20 @@ use mips3_table::Operation::{
 };
 use mips3_table::{
     Amount, Comparison, Coprocessor, DelaySlot, Form, Inst, Link, Operation, Overflow, Signedness,
-    Width,
+    Width, record_of,
 };
 use r4_words::sext32;
+
+// The codes of the exceptions that instructions raise by themselves.
+const SYSTEM_CALL: u8 = 8;
+
+const BREAKPOINT: u8 = 9;
+
+const COPROCESSOR_UNUSABLE: u8 = 11;
+
+const OVERFLOW: u8 = 12;
+
+const TRAP: u8 = 13;
 
 // Whether a comparison holds of two values.
 fn holds(comparison: Comparison, a: u64, b: u64) -> bool
@@ -141,13 +154,20 @@ fn arithmetic_shift(width: Width, by: Amount, inst: &Inst, regs: &Regs) -> u64
     }
 }
 
+// An exception that concerns no coprocessor.
+fn exception(code: u8) -> Effect
+    ensures { result ≡ law.exception code }
+{
+    Effect::Raise { code, unit: 0 }
+}
+
 // A value into a register, or the overflow exception where there is none.
 fn set_or_overflow(reg: u8, value: Option<u64>) -> Effect
     ensures { result ≡ law.set_or_overflow reg value }
 {
     match value {
         Some(value) => Effect::Set { reg, value },
-        None => Effect::Raise { code: 12, unit: 0 },
+        None => exception(OVERFLOW),
     }
 }
 
@@ -166,7 +186,7 @@ fn trap_where(condition: bool) -> Effect
     ensures { result ≡ law.trap_where condition }
 {
     if condition {
-        Effect::Raise { code: 13, unit: 0 }
+        exception(TRAP)
     } else {
         Effect::Nothing
     }
@@ -183,9 +203,13 @@ fn is_likely(slot: DelaySlot) -> bool
 fn unusable(coprocessor: Coprocessor) -> Effect
     ensures { result ≡ law.unusable coprocessor }
 {
-    match coprocessor {
-        Coprocessor::One => Effect::Raise { code: 11, unit: 1 },
-        Coprocessor::Two => Effect::Raise { code: 11, unit: 2 },
+    let unit = match coprocessor {
+        Coprocessor::One => 1,
+        Coprocessor::Two => 2,
+    };
+    Effect::Raise {
+        code: COPROCESSOR_UNUSABLE,
+        unit,
     }
 }
 
@@ -197,7 +221,15 @@ fn set(reg: u8, value: u64) -> Effect
 }
 
 // A jump or a branch.
-fn go(form: Form, inst: &Inst, regs: &Regs, pc: u32, taken: bool, likely: bool, link: Link) -> Effect
+fn go(
+    form: Form,
+    inst: &Inst,
+    regs: &Regs,
+    pc: u32,
+    taken: bool,
+    likely: bool,
+    link: Link,
+) -> Effect
     requires { HasFields form inst.now }
     ensures { result ≡ law.go form inst.now regs.now pc taken likely link }
 {
@@ -239,7 +271,15 @@ fn carried_out(operation: Operation, form: Form, inst: &Inst, regs: &Regs, pc: u
     match operation {
         Jump(link) => go(form, inst, regs, pc, true, false, link),
         Branch(comparison, slot, link) => {
-            go(form, inst, regs, pc, holds(comparison, a, b), is_likely(slot), link)
+            go(
+                form,
+                inst,
+                regs,
+                pc,
+                holds(comparison, a, b),
+                is_likely(slot),
+                link,
+            )
         }
         Add(width, overflow) => set_or_overflow(reg, sum(overflow, width, a, b)),
         Subtract(width, overflow) => set_or_overflow(reg, difference(overflow, width, a, b)),
@@ -259,8 +299,8 @@ fn carried_out(operation: Operation, form: Form, inst: &Inst, regs: &Regs, pc: u
         MoveToHi => Effect::HiLo { hi: a, lo: regs.lo },
         MoveToLo => Effect::HiLo { hi: regs.hi, lo: a },
         TrapWhere(comparison) => trap_where(holds(comparison, a, b)),
-        SystemCall => Effect::Raise { code: 8, unit: 0 },
-        Breakpoint => Effect::Raise { code: 9, unit: 0 },
+        SystemCall => exception(SYSTEM_CALL),
+        Breakpoint => exception(BREAKPOINT),
         Synchronize => Effect::Nothing,
         Load(..) | LoadLeft(_) | LoadRight(_) => access(Touch::Load, operation, form, inst, regs),
         LoadLinked(_) => access(Touch::Link, operation, form, inst, regs),
@@ -270,7 +310,27 @@ fn carried_out(operation: Operation, form: Form, inst: &Inst, regs: &Regs, pc: u
         StoreConditional(_) => access(Touch::Cond, operation, form, inst, regs),
         OperateCache => access(Touch::Cache, operation, form, inst, regs),
         UseCoprocessor(coprocessor) => unusable(coprocessor),
-        MoveFromCp0(_) | MoveToCp0(_) | ReadTlb | WriteIndexedTlb | WriteRandomTlb | ProbeTlb
+        MoveFromCp0(_)
+        | MoveToCp0(_)
+        | ReadTlb
+        | WriteIndexedTlb
+        | WriteRandomTlb
+        | ProbeTlb
         | ReturnFromException => Effect::System { row: inst.row },
     }
+}
+
+/// The effect of an instruction at pc on these registers.
+#[tactic(auto, unfolding(crate::specs::Effects::effect_of), using(crate::proofs::TableFacts::within_by, crate::proofs::TableFacts::fields_by))]
+pub fn effect(inst: &Inst, regs: &Regs, pc: u32) -> Effect
+    requires { IsInst inst.now }
+    ensures effect { result ≡ law.effect_of inst.now regs.now pc }
+    ensures registers { HasRegisters result }
+    ensures system { LeavesSystem (operation_of inst.now) inst.now.row result }
+    ensures raised { RaisesItsOwn result }
+    ensures access { TouchesMoved (operation_of inst.now) result }
+    ensures few { TouchesFew (operation_of inst.now) result }
+{
+    let row = record_of(inst.row);
+    carried_out(row.operation, row.form, inst, regs, pc)
 }
