@@ -1,7 +1,7 @@
 -- The bytes that loads and stores move between memory and a register.
 -- Source: MIPS R4000 Microprocessor User's Manual, 2nd edition (Heinrich), appendix A, the pages of LB to SW, LWL, LWR, SWL,
 -- SWR and of the same with D, whose figures show the bytes of each position; big-endian byte numbering.
-use Rattle.std.specs.Prelude.{ℕ, ◌==◌, ◌+◌, ◌-◌, ◌*◌, ◌%◌, ◌^◌, Bool, true, false, List, fold}
+use Rattle.std.specs.Prelude.{ℕ, ◌==◌, ◌+◌, ◌-◌, ◌*◌, ◌%◌, ◌^◌, Bool, true, false, if◌then◌else◌, List, fold}
 use Rattle.std.specs.Int.{bytes_high_first}
 use Rattle.flat_ram.specs.Bytes.{bytes_at, put_bytes}
 use Rattle.mips3_table.specs.declared.operations.Width.{Width}
@@ -64,6 +64,15 @@ moved _ va = whole 1 va
 -- the address is aligned as the operation wants it
 abbrev pub is_aligned : Operation → ℕ → Bool
 is_aligned operation va = va % (moved operation va).alignment == 0
+
+-- the same rule seen from the bytes: 2, 4 or 8 of them begin at a multiple of their number, as those of the left and right
+-- operations always do
+abbrev pub begins_aligned : ℕ → ℕ → Bool
+begins_aligned first size =
+    if size == 2 then first % 2 == 0 else
+    if size == 4 then first % 4 == 0 else
+    if size == 8 then first % 8 == 0 else
+    true
 
 abbrev pub is_load : Operation → Bool
 is_load (Load size signedness) = true

@@ -13,7 +13,7 @@ use Rattle.mips3_exec.specs.declared.effects.Effect.{Effect}
 use Rattle.mips3_exec.specs.declared.effects.Effect.TheVariants.{Nothing, Set, HiLo, Jump, Touch, System, Raise}
 use Rattle.mips3_exec.specs.declared.effects.Touch.{Touch as Kind}
 use Rattle.mips3_exec.specs.declared.effects.Touch.TheVariants.{Load, Store, Link, Cond, Cache}
-use Rattle.mips3_exec.specs.Accesses.{moved, is_load, is_store, is_aligned}
+use Rattle.mips3_exec.specs.Accesses.{moved, is_load, is_store, is_aligned, begins_aligned}
 
 -- an instruction of this form: registers and amounts are below 32, and the number fits
 pub record HasFields (form : Form) (inst : Inst) : Type 0 where
@@ -102,3 +102,8 @@ pub record IsSmall (operation : Operation) (va first size : ℕ) : Type 0 where
 abbrev pub TouchesFew : Operation → Effect → Type 0
 TouchesFew operation (Touch kind va first size reg) = IsSmall operation va first size
 TouchesFew operation _ = Unit {0}
+
+-- whether an access is aligned as its operation wants is seen from its bytes
+abbrev pub AlignsByBytes : Operation → Effect → Type 0
+AlignsByBytes operation (Touch kind va first size reg) = is_aligned operation va ≡ begins_aligned first size
+AlignsByBytes operation _ = Unit {0}

@@ -7,7 +7,7 @@ ghost use Rattle.mips3_exec.specs.Operands.{bits};
 ghost use Rattle.mips3_exec.specs.Effects as law;
 ghost use Rattle.mips3_exec.specs.Effects.{operation_of};
 ghost use Rattle.mips3_table.specs.Instructions.{IsInst};
-ghost use Rattle.mips3_exec.specs.Ranges.{HasFields, HasRegisters, LeavesSystem, RaisesItsOwn, TouchesFew, TouchesMoved, amount_fits, shifts_within};
+ghost use Rattle.mips3_exec.specs.Ranges.{AlignsByBytes, HasFields, HasRegisters, LeavesSystem, RaisesItsOwn, TouchesFew, TouchesMoved, amount_fits, shifts_within};
 
 use crate::accesses::moved;
 use crate::effects::{Effect, Touch};
@@ -112,7 +112,7 @@ fn left_shift(width: Width, by: Amount, inst: &Inst, regs: &Regs) -> u64
     requires rt { inst.now.rt < 32 }
     requires sa { inst.now.sa < 32 }
     requires within { IsTrue (amount_fits by width) }
-    ensures { result ≡ arithmetic.shifted_left (bits width) (operands.shifted inst.now regs.now) (operands.amount by width inst.now regs.now) }
+    ensures { result ≡ arithmetic.shifted_left (bits width) (operands.shifted_of inst.now regs.now) (operands.amount_of by width inst.now regs.now) }
 {
     let value = regs.read(inst.rt);
     let amount = amount(by, width, inst, regs);
@@ -128,7 +128,7 @@ fn logical_shift(width: Width, by: Amount, inst: &Inst, regs: &Regs) -> u64
     requires rt { inst.now.rt < 32 }
     requires sa { inst.now.sa < 32 }
     requires within { IsTrue (amount_fits by width) }
-    ensures { result ≡ arithmetic.shifted_right_logical (bits width) (operands.shifted inst.now regs.now) (operands.amount by width inst.now regs.now) }
+    ensures { result ≡ arithmetic.shifted_right_logical (bits width) (operands.shifted_of inst.now regs.now) (operands.amount_of by width inst.now regs.now) }
 {
     let value = regs.read(inst.rt);
     let amount = amount(by, width, inst, regs);
@@ -144,7 +144,7 @@ fn arithmetic_shift(width: Width, by: Amount, inst: &Inst, regs: &Regs) -> u64
     requires rt { inst.now.rt < 32 }
     requires sa { inst.now.sa < 32 }
     requires within { IsTrue (amount_fits by width) }
-    ensures { result ≡ arithmetic.shifted_right_arithmetic (bits width) (operands.shifted inst.now regs.now) (operands.amount by width inst.now regs.now) }
+    ensures { result ≡ arithmetic.shifted_right_arithmetic (bits width) (operands.shifted_of inst.now regs.now) (operands.amount_of by width inst.now regs.now) }
 {
     let value = regs.read(inst.rt);
     let amount = amount(by, width, inst, regs);
@@ -221,7 +221,7 @@ fn set(reg: u8, value: u64) -> Effect
 }
 
 // A jump or a branch.
-fn go(
+fn jump(
     form: Form,
     inst: &Inst,
     regs: &Regs,
@@ -231,7 +231,7 @@ fn go(
     link: Link,
 ) -> Effect
     requires { HasFields form inst.now }
-    ensures { result ≡ law.go form inst.now regs.now pc taken likely link }
+    ensures { result ≡ law.jump form inst.now regs.now pc taken likely link }
 {
     Effect::Jump {
         taken,
@@ -269,7 +269,7 @@ fn carried_out(operation: Operation, form: Form, inst: &Inst, regs: &Regs, pc: u
     let b = second(form, inst, regs);
     let reg = destination(form, inst);
     match operation {
-        Jump(link) => go(form, inst, regs, pc, true, false, link),
+        Jump(link) => jump(form, inst, regs, pc, true, false, link),
         Branch(comparison, slot, link) => {
             go(
                 form,
@@ -330,6 +330,7 @@ pub fn effect(inst: &Inst, regs: &Regs, pc: u32) -> Effect
     ensures raised { RaisesItsOwn result }
     ensures access { TouchesMoved (operation_of inst.now) result }
     ensures few { TouchesFew (operation_of inst.now) result }
+    ensures aligned { AlignsByBytes (operation_of inst.now) result }
 {
     let row = record_of(inst.row);
     carried_out(row.operation, row.form, inst, regs, pc)

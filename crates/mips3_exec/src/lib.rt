@@ -2,7 +2,8 @@
 //!
 //! `effect` gives the effect of an instruction on these registers at this pc: what goes to a register or to HI and LO, where
 //! it jumps, which bytes of memory it wants, what is left to coprocessor 0, or which exception it raises. `loaded` is what a
-//! load makes of the bytes that were read, and `stored` the bytes that a store writes. The definitions have one equation for
+//! load makes of the bytes that were read, and `stored` the bytes that a store writes; `is_aligned` tells of an access whether it
+//! is an address error. The definitions have one equation for
 //! each operation of the instruction table (`specs/Effects.antt`), and the bytes of loads and stores once for both
 //! (`specs/Accesses.antt`).
 //!
@@ -16,6 +17,7 @@ mod executing;
 mod merging;
 mod operands;
 
+pub use accesses::is_aligned;
 pub use effects::{Effect, Touch};
 pub use executing::effect;
 pub use merging::{loaded, stored};
