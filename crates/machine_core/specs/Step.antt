@@ -12,7 +12,7 @@ use Rattle.machine_core.specs.declared.talk.Request.TheVariants.{Fetch, Load, St
 use Rattle.machine_core.specs.declared.instructions.Instruction.{Instruction}
 use Rattle.machine_core.specs.declared.instructions.Instruction.TheVariants.{LoadUpperImmediate, OrImmediate, ShiftLeft, JumpRegister, LoadWord, StoreWord, MoveToStatus}
 use Rattle.machine_core.specs.Instructions.{instruction_of}
-use Rattle.machine_core.specs.Registers.{register, low_word}
+use Rattle.mips3_alu.specs.Registers.{register, low_word}
 use Rattle.machine_core.specs.SystemControl.{is_kernel, is_quiet, with_status}
 use Rattle.machine_core.specs.Processor.{advanced, jumped, with_result}
 use Rattle.machine_core.specs.Talk.{Talk, Done, Refuse, Ask}
