@@ -1,10 +1,10 @@
 -- What holds of the effect of every operation.
-use Rattle.std.proofs.Common.{◌≡◌, ◌==◌, ℕ, ◌+◌, ◌-◌, ◌<◌, ◌≤◌, ◌%◌, Bool, true, false, not, IsTrue, Option, Some, None, if◌then◌else◌, refl, sym, ap, ◌∙◌, arith, zero, suc}
+use Rattle.std.proofs.Common.{◌≡◌, ◌==◌, ℕ, ◌+◌, ◌-◌, ◌<◌, ◌≤◌, ◌%◌, Bool, true, false, Option, Some, None, if◌then◌else◌, refl, sym, ap, ◌∙◌, arith, zero, suc}
 use Rattle.std.proofs.lemmas.Bool.{eqb-true}
 use Rattle.mips3_table.specs.declared.instruction.Inst.{Inst}
 use Rattle.mips3_table.specs.declared.operand_forms.Form.{Form}
 use Rattle.mips3_table.specs.declared.operations.Operation.{Operation}
-use Rattle.mips3_table.specs.declared.operations.Operation.TheVariants.{Jump, Branch, Add, Subtract, And, Or, ExclusiveOr, NotOr, SetWhere, LoadUpper, ShiftLeft, ShiftRightLogical, ShiftRightArithmetic, Multiply, Divide, MoveFromHi, MoveFromLo, MoveToHi, MoveToLo, TrapWhere, SystemCall, Breakpoint, Synchronize, Load, LoadLeft, LoadRight, LoadLinked, Store, StoreLeft, StoreRight, StoreConditional, OperateCache, UseCoprocessor, MoveFromCp0, MoveToCp0, ReadTlb, WriteIndexedTlb, WriteRandomTlb, ProbeTlb, ReturnFromException}
+use Rattle.mips3_table.specs.declared.operations.Operation.TheVariants.{Jump, Branch, Add, Subtract, Multiply, Divide, MoveToHi, MoveToLo, TrapWhere, SystemCall, Breakpoint, Synchronize, Load, LoadLeft, LoadRight, LoadLinked, Store, StoreLeft, StoreRight, StoreConditional, OperateCache, UseCoprocessor, MoveFromCp0, MoveToCp0, ReadTlb, WriteIndexedTlb, WriteRandomTlb, ProbeTlb, ReturnFromException}
 use Rattle.mips3_table.specs.declared.operations.Coprocessor.TheVariants.{One, Two}
 use Rattle.mips3_table.specs.declared.operations.Link.{Link}
 use Rattle.mips3_table.specs.declared.operations.Link.TheVariants.{Unlinked, IntoRegister31, IntoDestination}
@@ -14,10 +14,9 @@ use Rattle.mips3_table.specs.declared.operations.Size.{Size}
 use Rattle.mips3_table.specs.declared.operations.Size.TheVariants.{Byte, Half, Wide}
 use Rattle.mips3_table.specs.Operands.{widths_of}
 use Rattle.mips3_alu.specs.declared.registers.Regs.{Regs}
-use Rattle.mips3_exec.specs.declared.effects.Effect.{Effect}
 use Rattle.mips3_exec.specs.Operands.{destination_of, link_register, address_of}
 use Rattle.mips3_exec.specs.Accesses.{bytes_of_size, bytes_of_width, left, right, begins_aligned}
-use Rattle.mips3_exec.specs.Effects.{carried_out, set_or_overflow, trap_where, holds}
+use Rattle.mips3_exec.specs.Effects.{carried_out, set_or_overflow, trap_where}
 use Rattle.mips3_exec.specs.Ranges.{HasFields, HasRegisters, LeavesSystem, RaisesItsOwn, TouchesMoved, TouchesFew, AlignsByBytes}
 
 -- ---- registers
@@ -270,9 +269,9 @@ aligned_trap operation false = tt
 
 pub aligned_of : (form : Form) (inst : Inst) (regs : Regs) (pc : ℕ) (operation : Operation) → AlignsByBytes operation (carried_out form inst regs pc operation)
 unfolding carried_out
-aligned_of form inst regs pc (Add width overflow) = aligned_set _ _ _
-aligned_of form inst regs pc (Subtract width overflow) = aligned_set _ _ _
-aligned_of form inst regs pc (TrapWhere comparison) = aligned_trap _ _
+aligned_of form inst regs pc (Add width overflow) = aligned_set (Add width overflow) _ _
+aligned_of form inst regs pc (Subtract width overflow) = aligned_set (Subtract width overflow) _ _
+aligned_of form inst regs pc (TrapWhere comparison) = aligned_trap (TrapWhere comparison) _
 aligned_of form inst regs pc (UseCoprocessor One) = tt
 aligned_of form inst regs pc (UseCoprocessor Two) = tt
 aligned_of form inst regs pc (Load size signedness) = whole_aligned size (address_of form inst regs)

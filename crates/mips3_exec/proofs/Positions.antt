@@ -11,7 +11,7 @@ use Rattle.mips3_table.specs.declared.operations.Signedness.TheVariants.{Signed,
 use Rattle.mips3_table.specs.declared.operations.Operation.{Operation}
 use Rattle.mips3_table.specs.declared.operations.Operation.TheVariants.{Load, LoadLeft, LoadRight, LoadLinked, Store, StoreLeft, StoreRight, StoreConditional}
 use Rattle.mips3_alu.specs.Arithmetic.{extended}
-use Rattle.mips3_exec.specs.Accesses.{Moved, whole, left, right, merged, as_register, bytes_of_width, bytes_of_size, loaded_by, stored_by, moved, is_store}
+use Rattle.mips3_exec.specs.Accesses.{whole, left, right, merged, as_register, bytes_of_width, bytes_of_size, loaded_by, stored_by, moved, is_store}
 use Rattle.mips3_exec.proofs.Pieces.{some_bytes, piece_is, merged_is}
 
 -- a shifted one is a power of 256

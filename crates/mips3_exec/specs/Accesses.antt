@@ -11,7 +11,7 @@ use Rattle.mips3_table.specs.declared.operations.Size.TheVariants.{Byte, Half, W
 use Rattle.mips3_table.specs.declared.operations.Signedness.{Signedness}
 use Rattle.mips3_table.specs.declared.operations.Signedness.TheVariants.{Signed, Unsigned}
 use Rattle.mips3_table.specs.declared.operations.Operation.{Operation}
-use Rattle.mips3_table.specs.declared.operations.Operation.TheVariants.{Load, LoadLeft, LoadRight, LoadLinked, Store, StoreLeft, StoreRight, StoreConditional, OperateCache}
+use Rattle.mips3_table.specs.declared.operations.Operation.TheVariants.{Load, LoadLeft, LoadRight, LoadLinked, Store, StoreLeft, StoreRight, StoreConditional}
 use Rattle.mips3_alu.specs.Arithmetic.{extended}
 
 -- how many bytes a width, and a size, has

@@ -1,5 +1,4 @@
 -- What is known of every effect is known of the one of the row's operation.
-use Rattle.std.proofs.Common.{sym}
 use Rattle.mips3_exec.proofs.EffectFacts.{registers_of, system_of, raised_of, access_of, few_of, aligned_of}
 use Rattle.mips3_exec.proofs.TableFacts.{fields_by}
 use Rattle.mips3_exec.proofs.executing.effect.Goals as goal
