@@ -1,7 +1,7 @@
 -- The bytes that loads and stores move between memory and a register.
 -- Source: MIPS R4000 Microprocessor User's Manual, 2nd edition (Heinrich), appendix A, the pages of LB to SW, LWL, LWR, SWL,
 -- SWR and of the same with D, whose figures show the bytes of each position; big-endian byte numbering.
-use Rattle.std.specs.Prelude.{ℕ, ◌==◌, ◌+◌, ◌-◌, ◌*◌, ◌%◌, ◌^◌, Bool, true, false, if◌then◌else◌, List, fold}
+use Rattle.std.specs.Prelude.{ℕ, pos, ◌==◌, ◌+◌, ◌-◌, ◌*◌, ◌%◌, Bool, true, false, if◌then◌else◌, List, fold}
 use Rattle.std.specs.Int.{bytes_high_first}
 use Rattle.flat_ram.specs.Bytes.{bytes_at, put_bytes}
 use Rattle.mips3_table.specs.declared.operations.Width.{Width}
@@ -12,7 +12,7 @@ use Rattle.mips3_table.specs.declared.operations.Signedness.{Signedness}
 use Rattle.mips3_table.specs.declared.operations.Signedness.TheVariants.{Signed, Unsigned}
 use Rattle.mips3_table.specs.declared.operations.Operation.{Operation}
 use Rattle.mips3_table.specs.declared.operations.Operation.TheVariants.{Load, LoadLeft, LoadRight, LoadLinked, Store, StoreLeft, StoreRight, StoreConditional}
-use Rattle.mips3_alu.specs.Arithmetic.{extended}
+use Rattle.mips3_alu.specs.Arithmetic.{reduced, unsigned}
 
 -- how many bytes a width, and a size, has
 abbrev pub bytes_of_width : Width → ℕ
@@ -100,8 +100,8 @@ register_bytes value = bytes_high_first 8 value
 
 -- the low bits of a number as a register, in two's complement or not
 abbrev pub as_register : Signedness → ℕ → ℕ → ℕ
-as_register Signed width value = extended width (value % 2 ^ width)
-as_register Unsigned width value = value % 2 ^ width
+as_register Signed width value = reduced width (pos value)
+as_register Unsigned width value = unsigned width value
 
 -- how a load extends: by zeros in the unsigned rows alone
 abbrev pub signedness_of : Operation → Signedness

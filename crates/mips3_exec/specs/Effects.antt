@@ -2,8 +2,7 @@
 -- exception. There is one equation for each operation of the table; rows that differ in their operands alone share it.
 -- Source: MIPS R4000 Microprocessor User's Manual, 2nd edition (Heinrich), appendix A, the "Operation" of each instruction's
 -- page; chapter 5, the codes of exceptions.
-use Rattle.std.specs.Prelude.{ℕ, ◌==◌, ◌*◌, ◌%◌, ◌^◌, Bool, true, false, not, bit_and, bit_or, bit_xor, if◌then◌else◌, Option, Some, None}
-use Rattle.r4_words.specs.Words.{sext32}
+use Rattle.std.specs.Prelude.{ℕ, pos, ◌==◌, ◌*◌, ◌^◌, Bool, true, false, not, bit_and, bit_or, bit_xor, if◌then◌else◌, Option, Some, None}
 use Rattle.mips3_table.specs.declared.instruction.Inst.{Inst}
 use Rattle.mips3_table.specs.declared.operand_forms.Form.{Form}
 use Rattle.mips3_table.specs.declared.operations.Operation.{Operation}
@@ -24,7 +23,7 @@ use Rattle.mips3_table.specs.declared.operations.Coprocessor.TheVariants.{One, T
 use Rattle.mips3_table.specs.Rows.{row_at}
 use Rattle.mips3_alu.specs.declared.registers.Regs.{Regs}
 use Rattle.mips3_alu.specs.declared.registers.Halves.{Halves}
-use Rattle.mips3_alu.specs.Arithmetic.{sum, sum_if_fits, difference, difference_if_fits, nor, less, less_unsigned, one_where, shifted_left, shifted_right_logical, shifted_right_arithmetic, product, product_unsigned, division, division_unsigned}
+use Rattle.mips3_alu.specs.Arithmetic.{reduced, sum, sum_if_fits, difference, difference_if_fits, nor, less, less_unsigned, one_where, shifted_left, shifted_right_logical, shifted_right_arithmetic, product, product_unsigned, division, division_unsigned}
 use Rattle.mips3_exec.specs.declared.effects.Effect.{Effect}
 use Rattle.mips3_exec.specs.declared.effects.Effect.TheVariants as effect
 use Rattle.mips3_exec.specs.declared.effects.Touch.{Touch}
@@ -131,7 +130,7 @@ module _ (form : Form) (inst : Inst) (regs : Regs) where
     carried_out ExclusiveOr = set (bit_xor first second)
     carried_out NotOr = set (nor first second)
     carried_out (SetWhere comparison) = set (one_where (holds comparison first second))
-    carried_out LoadUpper = set (sext32 (inst.imm * 2 ^ 16 % 2 ^ 32))
+    carried_out LoadUpper = set (reduced 32 (pos (inst.imm * 2 ^ 16)))
     carried_out (ShiftLeft width amount) = shift shifted_left width amount
     carried_out (ShiftRightLogical width amount) = shift shifted_right_logical width amount
     carried_out (ShiftRightArithmetic width amount) = shift shifted_right_arithmetic width amount

@@ -2,7 +2,7 @@
 -- Source: MIPS R4000 Microprocessor User's Manual, 2nd edition (Heinrich), appendix A, "Instruction Formats" and the page of
 -- each instruction: GPR[rs], GPR[rt], sign_extend(immediate), zero_extend(immediate), and the virtual address vAddr. The
 -- machine runs with addresses of 32 bits.
-use Rattle.std.specs.Prelude.{ℕ, ◌==◌, ◌+◌, ◌%◌, ◌^◌, if◌then◌else◌}
+use Rattle.std.specs.Prelude.{ℕ, pos, ◌==◌, ◌+◌, ◌%◌, ◌^◌, if◌then◌else◌}
 use Rattle.r4_words.specs.Words.{sext16, sext32}
 use Rattle.mips3_table.specs.declared.instruction.Inst.{Inst}
 use Rattle.mips3_table.specs.declared.operand_forms.Form.{Form}
@@ -16,6 +16,7 @@ use Rattle.mips3_table.specs.declared.operations.Link.TheVariants.{Unlinked, Int
 use Rattle.mips3_table.specs.Operands.{widths_of}
 use Rattle.mips3_alu.specs.declared.registers.Regs.{Regs}
 use Rattle.mips3_alu.specs.Registers.{register}
+use Rattle.mips3_alu.specs.Arithmetic.{reduced}
 use Rattle.mips3_code.specs.Targets.{branch_target, jump_target}
 
 -- how many bits a width has
@@ -74,7 +75,7 @@ link_register Unlinked inst = 0
 link_register IntoRegister31 inst = 31
 link_register IntoDestination inst = inst.rd
 
--- the link: the address behind the delay slot
+-- the link: the address behind the delay slot, of which 32 bits are sign-extended
 abbrev pub link_value : Link → ℕ → ℕ
 link_value Unlinked pc = 0
-link_value _ pc = sext32 ((pc + 8) % 2 ^ 32)
+link_value _ pc = reduced 32 (pos (pc + 8))

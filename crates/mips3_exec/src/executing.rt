@@ -1,6 +1,6 @@
 //! The effect of each operation.
 
-ghost use Rattle.std.specs.Prelude.{◌≡◌, ◌<◌, ℕ, IsTrue};
+ghost use Rattle.std.specs.Prelude.{◌≡◌, ◌<◌, ◌*◌, ◌^◌, ℕ, pos, IsTrue};
 ghost use Rattle.mips3_alu.specs.Arithmetic as arithmetic;
 ghost use Rattle.mips3_exec.specs.Operands as operands;
 ghost use Rattle.mips3_exec.specs.Operands.{bits};
@@ -217,6 +217,14 @@ fn unusable(coprocessor: Coprocessor) -> Effect
     }
 }
 
+// A number in the upper half of a word, sign-extended.
+#[tactic(auto, unfolding(mips3_alu::specs::Arithmetic::reduced))]
+fn upper_half(number: u32) -> u64
+    ensures { result ≡ arithmetic.reduced 32 (pos (number * 2 ^ 16)) }
+{
+    sext32(number << 16)
+}
+
 // Whether a comparison holds of the operands.
 fn holds_of_operands(comparison: Comparison, form: Form, inst: &Inst, regs: &Regs) -> bool
     requires { HasFields form inst.now }
@@ -289,7 +297,7 @@ fn computed(operation: Operation, form: Form, inst: &Inst, regs: &Regs) -> Effec
         ExclusiveOr => set(reg, alu_xor(first, second)),
         NotOr => set(reg, alu_nor(first, second)),
         SetWhere(comparison) => set(reg, u64::from(holds(comparison, first, second))),
-        LoadUpper => set(reg, sext32(inst.imm << 16)),
+        LoadUpper => set(reg, upper_half(inst.imm)),
         ShiftLeft(width, by) => set(reg, left_shift(width, by, inst, regs)),
         ShiftRightLogical(width, by) => set(reg, logical_shift(width, by, inst, regs)),
         ShiftRightArithmetic(width, by) => set(reg, arithmetic_shift(width, by, inst, regs)),

@@ -116,6 +116,7 @@ pub fn link_register(link: Link, inst: &Inst) -> u8
 }
 
 /// The link of a jump or a branch at pc, or 0.
+#[tactic(auto, unfolding(mips3_alu::specs::Arithmetic::reduced))]
 pub fn link_value(link: Link, pc: u32) -> u64
     ensures { result ≡ law.link_value link pc }
 {
