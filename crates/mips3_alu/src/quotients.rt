@@ -2,12 +2,23 @@
 //! of their operands and sign-extend both. By zero, LO has all ones and HI the dividend; the least integer by -1 gives
 //! itself and the remainder 0.
 
-ghost use Rattle.std.specs.Prelude.{◌≡◌};
+ghost use Rattle.std.specs.Prelude.{◌≡◌, ◌-◌, ◌^◌};
 ghost use Rattle.mips3_alu.specs.Arithmetic as law;
 
 use crate::numbers::{integer_of, integer_of_word, low_word, register_of, register_of_word};
 use crate::registers::Halves;
 use r4_words::sext32;
+
+// What goes to HI and LO where the divisor is zero.
+fn by_zero(dividend: u64) -> Halves
+    ensures hi { result.hi ≡ dividend }
+    ensures lo { result.lo ≡ 2 ^ 64 - 1 }
+{
+    Halves {
+        hi: dividend,
+        lo: u64::MAX,
+    }
+}
 
 /// DIV: the quotient of words as integers.
 pub fn alu_div(a: u64, b: u64) -> Halves
@@ -15,10 +26,7 @@ pub fn alu_div(a: u64, b: u64) -> Halves
 {
     let (dividend, divisor) = (integer_of_word(a), integer_of_word(b));
     if divisor == 0 {
-        return Halves {
-            hi: register_of_word(dividend),
-            lo: u64::MAX,
-        };
+        return by_zero(register_of_word(dividend));
     }
     Halves {
         hi: register_of_word(dividend.wrapping_rem(divisor)),
@@ -33,10 +41,7 @@ pub fn alu_divu(a: u64, b: u64) -> Halves
 {
     let (dividend, divisor) = (low_word(a), low_word(b));
     if divisor == 0 {
-        return Halves {
-            hi: sext32(dividend),
-            lo: u64::MAX,
-        };
+        return by_zero(sext32(dividend));
     }
     Halves {
         hi: sext32(dividend % divisor),
@@ -50,10 +55,7 @@ pub fn alu_ddiv(a: u64, b: u64) -> Halves
 {
     let (dividend, divisor) = (integer_of(a), integer_of(b));
     if divisor == 0 {
-        return Halves {
-            hi: register_of(dividend),
-            lo: u64::MAX,
-        };
+        return by_zero(register_of(dividend));
     }
     Halves {
         hi: register_of(dividend.wrapping_rem(divisor)),
@@ -67,10 +69,7 @@ pub fn alu_ddivu(a: u64, b: u64) -> Halves
     ensures { result ≡ law.division_unsigned 64 a b }
 {
     if b == 0 {
-        return Halves {
-            hi: a,
-            lo: u64::MAX,
-        };
+        return by_zero(a);
     }
     Halves {
         hi: a % b,

@@ -1,10 +1,10 @@
 -- What holds of the effect of every operation.
-use Rattle.std.proofs.Common.{◌≡◌, ◌==◌, ℕ, ◌+◌, ◌-◌, ◌<◌, ◌≤◌, ◌%◌, Bool, true, false, not, IsTrue, Option, Some, None, if◌then◌else◌, refl, arith}
+use Rattle.std.proofs.Common.{◌≡◌, ◌==◌, ℕ, ◌+◌, ◌-◌, ◌<◌, ◌≤◌, ◌%◌, Bool, true, false, Option, Some, None, if◌then◌else◌, refl, sym, ap, ◌∙◌, arith, zero, suc}
 use Rattle.std.proofs.lemmas.Bool.{eqb-true}
 use Rattle.mips3_table.specs.declared.instruction.Inst.{Inst}
 use Rattle.mips3_table.specs.declared.operand_forms.Form.{Form}
 use Rattle.mips3_table.specs.declared.operations.Operation.{Operation}
-use Rattle.mips3_table.specs.declared.operations.Operation.TheVariants.{Jump, Branch, Add, Subtract, And, Or, ExclusiveOr, NotOr, SetWhere, LoadUpper, ShiftLeft, ShiftRightLogical, ShiftRightArithmetic, Multiply, Divide, MoveFromHi, MoveFromLo, MoveToHi, MoveToLo, TrapWhere, SystemCall, Breakpoint, Synchronize, Load, LoadLeft, LoadRight, LoadLinked, Store, StoreLeft, StoreRight, StoreConditional, OperateCache, UseCoprocessor, MoveFromCp0, MoveToCp0, ReadTlb, WriteIndexedTlb, WriteRandomTlb, ProbeTlb, ReturnFromException}
+use Rattle.mips3_table.specs.declared.operations.Operation.TheVariants.{Jump, Branch, Add, Subtract, Multiply, Divide, MoveToHi, MoveToLo, TrapWhere, SystemCall, Breakpoint, Synchronize, Load, LoadLeft, LoadRight, LoadLinked, Store, StoreLeft, StoreRight, StoreConditional, OperateCache, UseCoprocessor, MoveFromCp0, MoveToCp0, ReadTlb, WriteIndexedTlb, WriteRandomTlb, ProbeTlb, ReturnFromException}
 use Rattle.mips3_table.specs.declared.operations.Coprocessor.TheVariants.{One, Two}
 use Rattle.mips3_table.specs.declared.operations.Link.{Link}
 use Rattle.mips3_table.specs.declared.operations.Link.TheVariants.{Unlinked, IntoRegister31, IntoDestination}
@@ -14,11 +14,10 @@ use Rattle.mips3_table.specs.declared.operations.Size.{Size}
 use Rattle.mips3_table.specs.declared.operations.Size.TheVariants.{Byte, Half, Wide}
 use Rattle.mips3_table.specs.Operands.{widths_of}
 use Rattle.mips3_alu.specs.declared.registers.Regs.{Regs}
-use Rattle.mips3_exec.specs.declared.effects.Effect.{Effect}
-use Rattle.mips3_exec.specs.Operands.{destination, link_register, address}
-use Rattle.mips3_exec.specs.Accesses.{bytes_of_size, bytes_of_width, whole, left, right}
-use Rattle.mips3_exec.specs.Effects.{carried_out, set_or_overflow, trap_where, holds}
-use Rattle.mips3_exec.specs.Ranges.{HasFields, HasRegisters, LeavesSystem, RaisesItsOwn, TouchesMoved, TouchesFew, IsSmall}
+use Rattle.mips3_exec.specs.Operands.{destination_of, link_register, address_of}
+use Rattle.mips3_exec.specs.Accesses.{bytes_of_size, bytes_of_width, left, right, begins_aligned}
+use Rattle.mips3_exec.specs.Effects.{carried_out, set_or_overflow, trap_where}
+use Rattle.mips3_exec.specs.Ranges.{HasFields, HasRegisters, LeavesSystem, RaisesItsOwn, TouchesMoved, TouchesFew, AlignsByBytes}
 
 -- ---- registers
 
@@ -26,7 +25,7 @@ either_below : (b : Bool) (one other : ℕ) → one < 32 → other < 32 → (if 
 either_below true one other low low_other = low
 either_below false one other low low_other = low_other
 
-destination_below : (form : Form) (inst : Inst) → HasFields form inst → destination form inst < 32
+destination_below : (form : Form) (inst : Inst) → HasFields form inst → destination_of form inst < 32
 destination_below form inst fields = either_below ((widths_of form).rd == 0) inst.rt inst.rd fields.rt fields.rd
 
 link_below : (link : Link) (inst : Inst) → inst.rd < 32 → link_register link inst < 32
@@ -191,13 +190,97 @@ few_of form inst regs pc (Subtract width overflow) = few_set _ _ _
 few_of form inst regs pc (TrapWhere comparison) = few_trap _ _
 few_of form inst regs pc (UseCoprocessor One) = tt
 few_of form inst regs pc (UseCoprocessor Two) = tt
-few_of form inst regs pc (Load size signedness) = let few = few_whole size (address form inst regs) in record { some = few.0; most = few.1; inside = few.2 }
-few_of form inst regs pc (LoadLeft width) = let few = few_left width (address form inst regs) in record { some = few.0; most = few.1; inside = λ aligned. few.2 }
-few_of form inst regs pc (LoadRight width) = let few = few_right width (address form inst regs) in record { some = few.0; most = few.1; inside = λ aligned. few.2 }
-few_of form inst regs pc (LoadLinked width) = let few = few_whole (Wide width) (address form inst regs) in record { some = few.0; most = few.1; inside = few.2 }
-few_of form inst regs pc (Store size) = let few = few_whole size (address form inst regs) in record { some = few.0; most = few.1; inside = few.2 }
-few_of form inst regs pc (StoreLeft width) = let few = few_left width (address form inst regs) in record { some = few.0; most = few.1; inside = λ aligned. few.2 }
-few_of form inst regs pc (StoreRight width) = let few = few_right width (address form inst regs) in record { some = few.0; most = few.1; inside = λ aligned. few.2 }
-few_of form inst regs pc (StoreConditional width) = let few = few_whole (Wide width) (address form inst regs) in record { some = few.0; most = few.1; inside = few.2 }
-few_of form inst regs pc OperateCache = let few = few_whole Byte (address form inst regs) in record { some = few.0; most = few.1; inside = few.2 }
+few_of form inst regs pc (Load size signedness) = let few = few_whole size (address_of form inst regs) in record { some = few.0; most = few.1; inside = few.2 }
+few_of form inst regs pc (LoadLeft width) = let few = few_left width (address_of form inst regs) in record { some = few.0; most = few.1; inside = λ aligned. few.2 }
+few_of form inst regs pc (LoadRight width) = let few = few_right width (address_of form inst regs) in record { some = few.0; most = few.1; inside = λ aligned. few.2 }
+few_of form inst regs pc (LoadLinked width) = let few = few_whole (Wide width) (address_of form inst regs) in record { some = few.0; most = few.1; inside = few.2 }
+few_of form inst regs pc (Store size) = let few = few_whole size (address_of form inst regs) in record { some = few.0; most = few.1; inside = few.2 }
+few_of form inst regs pc (StoreLeft width) = let few = few_left width (address_of form inst regs) in record { some = few.0; most = few.1; inside = λ aligned. few.2 }
+few_of form inst regs pc (StoreRight width) = let few = few_right width (address_of form inst regs) in record { some = few.0; most = few.1; inside = λ aligned. few.2 }
+few_of form inst regs pc (StoreConditional width) = let few = few_whole (Wide width) (address_of form inst regs) in record { some = few.0; most = few.1; inside = few.2 }
+few_of form inst regs pc OperateCache = let few = few_whole Byte (address_of form inst regs) in record { some = few.0; most = few.1; inside = few.2 }
 few_of form inst regs pc _ = tt
+
+-- ---- alignment, by the operation and by the bytes
+
+is_zero : (n : ℕ) → n ≡ 0 → (n == 0) ≡ true
+is_zero n zero_is = ap (λ v. v == 0) zero_is
+
+always : (va : ℕ) → (va % 1 == 0) ≡ true
+always va = is_zero (va % 1) (omega arith)
+
+begins_left_4 : (va b : ℕ) → va % 4 ≡ b → begins_aligned va (4 - b) ≡ true
+begins_left_4 va zero at = is_zero (va % 4) at
+begins_left_4 va (suc zero) at = refl
+begins_left_4 va (suc (suc zero)) at = is_zero (va % 2) (omega arith)
+begins_left_4 va (suc (suc (suc zero))) at = refl
+begins_left_4 va (suc (suc (suc (suc b)))) at = absurd (omega arith)
+
+begins_left_8 : (va b : ℕ) → va % 8 ≡ b → begins_aligned va (8 - b) ≡ true
+begins_left_8 va zero at = is_zero (va % 8) at
+begins_left_8 va (suc zero) at = refl
+begins_left_8 va (suc (suc zero)) at = refl
+begins_left_8 va (suc (suc (suc zero))) at = refl
+begins_left_8 va (suc (suc (suc (suc zero)))) at = is_zero (va % 4) (omega arith)
+begins_left_8 va (suc (suc (suc (suc (suc zero))))) at = refl
+begins_left_8 va (suc (suc (suc (suc (suc (suc zero)))))) at = is_zero (va % 2) (omega arith)
+begins_left_8 va (suc (suc (suc (suc (suc (suc (suc zero))))))) at = refl
+begins_left_8 va (suc (suc (suc (suc (suc (suc (suc (suc b)))))))) at = absurd (omega arith)
+
+begins_right_4 : (va b : ℕ) → va % 4 ≡ b → begins_aligned (va - b) (b + 1) ≡ true
+begins_right_4 va zero at = refl
+begins_right_4 va (suc zero) at = is_zero ((va - 1) % 2) (omega arith)
+begins_right_4 va (suc (suc zero)) at = refl
+begins_right_4 va (suc (suc (suc zero))) at = is_zero ((va - 3) % 4) (omega arith)
+begins_right_4 va (suc (suc (suc (suc b)))) at = absurd (omega arith)
+
+begins_right_8 : (va b : ℕ) → va % 8 ≡ b → begins_aligned (va - b) (b + 1) ≡ true
+begins_right_8 va zero at = refl
+begins_right_8 va (suc zero) at = is_zero ((va - 1) % 2) (omega arith)
+begins_right_8 va (suc (suc zero)) at = refl
+begins_right_8 va (suc (suc (suc zero))) at = is_zero ((va - 3) % 4) (omega arith)
+begins_right_8 va (suc (suc (suc (suc zero)))) at = refl
+begins_right_8 va (suc (suc (suc (suc (suc zero))))) at = refl
+begins_right_8 va (suc (suc (suc (suc (suc (suc zero)))))) at = refl
+begins_right_8 va (suc (suc (suc (suc (suc (suc (suc zero))))))) at = is_zero ((va - 7) % 8) (omega arith)
+begins_right_8 va (suc (suc (suc (suc (suc (suc (suc (suc b)))))))) at = absurd (omega arith)
+
+whole_aligned : (size : Size) (va : ℕ) → (va % bytes_of_size size == 0) ≡ begins_aligned va (bytes_of_size size)
+whole_aligned Byte va = always va
+whole_aligned Half va = refl
+whole_aligned (Wide Word) va = refl
+whole_aligned (Wide Double) va = refl
+
+left_aligned : (width : Width) (va : ℕ) → (va % 1 == 0) ≡ begins_aligned va (left (bytes_of_width width) va).size
+left_aligned Word va = always va ∙ sym (begins_left_4 va (va % 4) refl)
+left_aligned Double va = always va ∙ sym (begins_left_8 va (va % 8) refl)
+
+right_aligned : (width : Width) (va : ℕ) → (va % 1 == 0) ≡ begins_aligned (right (bytes_of_width width) va).first (right (bytes_of_width width) va).size
+right_aligned Word va = always va ∙ sym (begins_right_4 va (va % 4) refl)
+right_aligned Double va = always va ∙ sym (begins_right_8 va (va % 8) refl)
+
+aligned_set : (operation : Operation) (reg : ℕ) (value : Option ℕ) → AlignsByBytes operation (set_or_overflow reg value)
+aligned_set operation reg (Some value) = tt
+aligned_set operation reg None = tt
+
+aligned_trap : (operation : Operation) (condition : Bool) → AlignsByBytes operation (trap_where condition)
+aligned_trap operation true = tt
+aligned_trap operation false = tt
+
+pub aligned_of : (form : Form) (inst : Inst) (regs : Regs) (pc : ℕ) (operation : Operation) → AlignsByBytes operation (carried_out form inst regs pc operation)
+unfolding carried_out
+aligned_of form inst regs pc (Add width overflow) = aligned_set (Add width overflow) _ _
+aligned_of form inst regs pc (Subtract width overflow) = aligned_set (Subtract width overflow) _ _
+aligned_of form inst regs pc (TrapWhere comparison) = aligned_trap (TrapWhere comparison) _
+aligned_of form inst regs pc (UseCoprocessor One) = tt
+aligned_of form inst regs pc (UseCoprocessor Two) = tt
+aligned_of form inst regs pc (Load size signedness) = whole_aligned size (address_of form inst regs)
+aligned_of form inst regs pc (LoadLeft width) = left_aligned width (address_of form inst regs)
+aligned_of form inst regs pc (LoadRight width) = right_aligned width (address_of form inst regs)
+aligned_of form inst regs pc (LoadLinked width) = whole_aligned (Wide width) (address_of form inst regs)
+aligned_of form inst regs pc (Store size) = whole_aligned size (address_of form inst regs)
+aligned_of form inst regs pc (StoreLeft width) = left_aligned width (address_of form inst regs)
+aligned_of form inst regs pc (StoreRight width) = right_aligned width (address_of form inst regs)
+aligned_of form inst regs pc (StoreConditional width) = whole_aligned (Wide width) (address_of form inst regs)
+aligned_of form inst regs pc OperateCache = always (address_of form inst regs)
+aligned_of form inst regs pc _ = tt

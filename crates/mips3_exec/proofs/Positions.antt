@@ -10,8 +10,8 @@ use Rattle.mips3_table.specs.declared.operations.Signedness.{Signedness}
 use Rattle.mips3_table.specs.declared.operations.Signedness.TheVariants.{Signed, Unsigned}
 use Rattle.mips3_table.specs.declared.operations.Operation.{Operation}
 use Rattle.mips3_table.specs.declared.operations.Operation.TheVariants.{Load, LoadLeft, LoadRight, LoadLinked, Store, StoreLeft, StoreRight, StoreConditional}
-use Rattle.mips3_alu.specs.Arithmetic.{extended}
-use Rattle.mips3_exec.specs.Accesses.{Moved, whole, left, right, merged, as_register, bytes_of_width, bytes_of_size, loaded_by, stored_by, moved, is_store}
+use Rattle.mips3_alu.specs.Arithmetic.{extended, reduced, unsigned}
+use Rattle.mips3_exec.specs.Accesses.{whole, left, right, merged, as_register, bytes_of_width, bytes_of_size, loaded_by, stored_by, moved, is_store}
 use Rattle.mips3_exec.proofs.Pieces.{some_bytes, piece_is, merged_is}
 
 -- a shifted one is a power of 256
@@ -28,6 +28,7 @@ power_is (suc (suc (suc (suc (suc (suc (suc (suc count)))))))) small = absurd (o
 
 -- only the low bits of a number count
 as_register_same : (signedness : Signedness) (width one other : ℕ) → one % 2 ^ width ≡ other % 2 ^ width → as_register signedness width one ≡ as_register signedness width other
+unfolding reduced unsigned
 as_register_same Signed width one other same = ap (extended width) same
 as_register_same Unsigned width one other same = same
 

@@ -1,7 +1,7 @@
 -- The bytes that loads and stores move between memory and a register.
 -- Source: MIPS R4000 Microprocessor User's Manual, 2nd edition (Heinrich), appendix A, the pages of LB to SW, LWL, LWR, SWL,
 -- SWR and of the same with D, whose figures show the bytes of each position; big-endian byte numbering.
-use Rattle.std.specs.Prelude.{ℕ, ◌==◌, ◌+◌, ◌-◌, ◌*◌, ◌%◌, ◌^◌, Bool, true, false, List, fold}
+use Rattle.std.specs.Prelude.{ℕ, pos, ◌==◌, ◌+◌, ◌-◌, ◌*◌, ◌%◌, Bool, true, false, if◌then◌else◌, List, fold}
 use Rattle.std.specs.Int.{bytes_high_first}
 use Rattle.flat_ram.specs.Bytes.{bytes_at, put_bytes}
 use Rattle.mips3_table.specs.declared.operations.Width.{Width}
@@ -11,8 +11,8 @@ use Rattle.mips3_table.specs.declared.operations.Size.TheVariants.{Byte, Half, W
 use Rattle.mips3_table.specs.declared.operations.Signedness.{Signedness}
 use Rattle.mips3_table.specs.declared.operations.Signedness.TheVariants.{Signed, Unsigned}
 use Rattle.mips3_table.specs.declared.operations.Operation.{Operation}
-use Rattle.mips3_table.specs.declared.operations.Operation.TheVariants.{Load, LoadLeft, LoadRight, LoadLinked, Store, StoreLeft, StoreRight, StoreConditional, OperateCache}
-use Rattle.mips3_alu.specs.Arithmetic.{extended}
+use Rattle.mips3_table.specs.declared.operations.Operation.TheVariants.{Load, LoadLeft, LoadRight, LoadLinked, Store, StoreLeft, StoreRight, StoreConditional}
+use Rattle.mips3_alu.specs.Arithmetic.{reduced, unsigned}
 
 -- how many bytes a width, and a size, has
 abbrev pub bytes_of_width : Width → ℕ
@@ -65,6 +65,15 @@ moved _ va = whole 1 va
 abbrev pub is_aligned : Operation → ℕ → Bool
 is_aligned operation va = va % (moved operation va).alignment == 0
 
+-- the same rule seen from the bytes: 2, 4 or 8 of them begin at a multiple of their number, as those of the left and right
+-- operations always do
+abbrev pub begins_aligned : ℕ → ℕ → Bool
+begins_aligned first size =
+    if size == 2 then first % 2 == 0 else
+    if size == 4 then first % 4 == 0 else
+    if size == 8 then first % 8 == 0 else
+    true
+
 abbrev pub is_load : Operation → Bool
 is_load (Load size signedness) = true
 is_load (LoadLeft width) = true
@@ -91,8 +100,8 @@ register_bytes value = bytes_high_first 8 value
 
 -- the low bits of a number as a register, in two's complement or not
 abbrev pub as_register : Signedness → ℕ → ℕ → ℕ
-as_register Signed width value = extended width (value % 2 ^ width)
-as_register Unsigned width value = value % 2 ^ width
+as_register Signed width value = reduced width (pos value)
+as_register Unsigned width value = unsigned width value
 
 -- how a load extends: by zeros in the unsigned rows alone
 abbrev pub signedness_of : Operation → Signedness

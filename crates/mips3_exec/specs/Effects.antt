@@ -2,12 +2,13 @@
 -- exception. There is one equation for each operation of the table; rows that differ in their operands alone share it.
 -- Source: MIPS R4000 Microprocessor User's Manual, 2nd edition (Heinrich), appendix A, the "Operation" of each instruction's
 -- page; chapter 5, the codes of exceptions.
-use Rattle.std.specs.Prelude.{ℕ, ◌==◌, ◌*◌, ◌%◌, ◌^◌, Bool, true, false, not, bit_and, bit_or, bit_xor, if◌then◌else◌, Option, Some, None}
-use Rattle.r4_words.specs.Words.{sext32}
+use Rattle.std.specs.Prelude.{ℕ, pos, ◌==◌, ◌*◌, ◌^◌, Bool, true, false, not, bit_and, bit_or, bit_xor, if◌then◌else◌, Option, Some, None}
 use Rattle.mips3_table.specs.declared.instruction.Inst.{Inst}
 use Rattle.mips3_table.specs.declared.operand_forms.Form.{Form}
 use Rattle.mips3_table.specs.declared.operations.Operation.{Operation}
 use Rattle.mips3_table.specs.declared.operations.Operation.TheVariants.{Jump, Branch, Add, Subtract, And, Or, ExclusiveOr, NotOr, SetWhere, LoadUpper, ShiftLeft, ShiftRightLogical, ShiftRightArithmetic, Multiply, Divide, MoveFromHi, MoveFromLo, MoveToHi, MoveToLo, TrapWhere, SystemCall, Breakpoint, Synchronize, Load, LoadLeft, LoadRight, LoadLinked, Store, StoreLeft, StoreRight, StoreConditional, OperateCache, UseCoprocessor, MoveFromCp0, MoveToCp0, ReadTlb, WriteIndexedTlb, WriteRandomTlb, ProbeTlb, ReturnFromException}
+use Rattle.mips3_table.specs.declared.operations.Width.{Width}
+use Rattle.mips3_table.specs.declared.operations.Amount.{Amount}
 use Rattle.mips3_table.specs.declared.operations.Overflow.{Overflow}
 use Rattle.mips3_table.specs.declared.operations.Overflow.TheVariants.{Traps, Wraps}
 use Rattle.mips3_table.specs.declared.operations.Comparison.{Comparison}
@@ -22,12 +23,12 @@ use Rattle.mips3_table.specs.declared.operations.Coprocessor.TheVariants.{One, T
 use Rattle.mips3_table.specs.Rows.{row_at}
 use Rattle.mips3_alu.specs.declared.registers.Regs.{Regs}
 use Rattle.mips3_alu.specs.declared.registers.Halves.{Halves}
-use Rattle.mips3_alu.specs.Arithmetic.{sum, sum_if_fits, difference, difference_if_fits, nor, less, less_unsigned, one_where, shifted_left, shifted_right_logical, shifted_right_arithmetic, product, product_unsigned, division, division_unsigned}
+use Rattle.mips3_alu.specs.Arithmetic.{reduced, sum, sum_if_fits, difference, difference_if_fits, nor, less, less_unsigned, one_where, shifted_left, shifted_right_logical, shifted_right_arithmetic, product, product_unsigned, division, division_unsigned}
 use Rattle.mips3_exec.specs.declared.effects.Effect.{Effect}
 use Rattle.mips3_exec.specs.declared.effects.Effect.TheVariants as effect
 use Rattle.mips3_exec.specs.declared.effects.Touch.{Touch}
 use Rattle.mips3_exec.specs.declared.effects.Touch.TheVariants as touch
-use Rattle.mips3_exec.specs.Operands.{bits, first, second, shifted, amount, destination, address, target, link_register, link_value}
+use Rattle.mips3_exec.specs.Operands.{bits, first_of, second_of, shifted_of, amount_of, destination_of, address_of, target_of, link_register, link_value}
 use Rattle.mips3_exec.specs.Accesses.{moved, loaded_by, stored_by}
 
 -- ---- words of the equations
@@ -90,48 +91,56 @@ unusable Two = effect.Raise 11 2
 
 module _ (form : Form) (inst : Inst) (regs : Regs) where
   -- the operands: all of them are read before anything is written, so a link does not change what a branch compares
-  abbrev pub a : ℕ
-  a = first inst regs
+  abbrev pub first : ℕ
+  first = first_of inst regs
 
-  abbrev pub b : ℕ
-  b = second form inst regs
+  abbrev pub second : ℕ
+  second = second_of form inst regs
 
   -- a value goes to the destination
+  abbrev pub destination : ℕ
+  destination = destination_of form inst
+
   abbrev pub set : ℕ → Effect
-  set value = effect.Set (destination form inst) value
+  set value = effect.Set destination value
+
+  -- register rt, shifted by so many bits, goes to the destination
+  abbrev pub shift : (ℕ → ℕ → ℕ → ℕ) → Width → Amount → Effect
+  shift shifted width amount = set (shifted (bits width) (shifted_of inst regs) (amount_of amount width inst regs))
 
   -- an access to the bytes that an operation moves, for register rt
   abbrev pub access : Touch → Operation → Effect
   access kind operation =
-      effect.Touch kind (address form inst regs) (moved operation (address form inst regs)).first (moved operation (address form inst regs)).size inst.rt
+      let va = address_of form inst regs in
+      effect.Touch kind va (moved operation va).first (moved operation va).size inst.rt
 
   module _ (pc : ℕ) where
     -- a jump or a branch: whether it is taken, whether it is likely, its target and its link
-    abbrev pub go : Bool → Bool → Link → Effect
-    go taken likely link = effect.Jump taken likely (target form inst regs pc) (link_register link inst) (link_value link pc)
+    abbrev pub jump : Bool → Bool → Link → Effect
+    jump taken likely link = effect.Jump taken likely (target_of form inst regs pc) (link_register link inst) (link_value link pc)
 
     -- The effect of each operation.
     unfoldable pub carried_out : Operation → Effect
-    carried_out (Jump link) = go true false link
-    carried_out (Branch comparison slot link) = go (holds comparison a b) (is_likely slot) link
-    carried_out (Add width overflow) = set_or_overflow (destination form inst) (sum_by overflow (bits width) a b)
-    carried_out (Subtract width overflow) = set_or_overflow (destination form inst) (difference_by overflow (bits width) a b)
-    carried_out And = set (bit_and a b)
-    carried_out Or = set (bit_or a b)
-    carried_out ExclusiveOr = set (bit_xor a b)
-    carried_out NotOr = set (nor a b)
-    carried_out (SetWhere comparison) = set (one_where (holds comparison a b))
-    carried_out LoadUpper = set (sext32 (inst.imm * 2 ^ 16 % 2 ^ 32))
-    carried_out (ShiftLeft width by) = set (shifted_left (bits width) (shifted inst regs) (amount by width inst regs))
-    carried_out (ShiftRightLogical width by) = set (shifted_right_logical (bits width) (shifted inst regs) (amount by width inst regs))
-    carried_out (ShiftRightArithmetic width by) = set (shifted_right_arithmetic (bits width) (shifted inst regs) (amount by width inst regs))
-    carried_out (Multiply width signedness) = to_hi_and_lo (product_by signedness (bits width) a b)
-    carried_out (Divide width signedness) = to_hi_and_lo (division_by signedness (bits width) a b)
+    carried_out (Jump link) = jump true false link
+    carried_out (Branch comparison slot link) = jump (holds comparison first second) (is_likely slot) link
+    carried_out (Add width overflow) = set_or_overflow destination (sum_by overflow (bits width) first second)
+    carried_out (Subtract width overflow) = set_or_overflow destination (difference_by overflow (bits width) first second)
+    carried_out And = set (bit_and first second)
+    carried_out Or = set (bit_or first second)
+    carried_out ExclusiveOr = set (bit_xor first second)
+    carried_out NotOr = set (nor first second)
+    carried_out (SetWhere comparison) = set (one_where (holds comparison first second))
+    carried_out LoadUpper = set (reduced 32 (pos (inst.imm * 2 ^ 16)))
+    carried_out (ShiftLeft width amount) = shift shifted_left width amount
+    carried_out (ShiftRightLogical width amount) = shift shifted_right_logical width amount
+    carried_out (ShiftRightArithmetic width amount) = shift shifted_right_arithmetic width amount
+    carried_out (Multiply width signedness) = to_hi_and_lo (product_by signedness (bits width) first second)
+    carried_out (Divide width signedness) = to_hi_and_lo (division_by signedness (bits width) first second)
     carried_out MoveFromHi = set regs.hi
     carried_out MoveFromLo = set regs.lo
-    carried_out MoveToHi = effect.HiLo a regs.lo
-    carried_out MoveToLo = effect.HiLo regs.hi a
-    carried_out (TrapWhere comparison) = trap_where (holds comparison a b)
+    carried_out MoveToHi = effect.HiLo first regs.lo
+    carried_out MoveToLo = effect.HiLo regs.hi first
+    carried_out (TrapWhere comparison) = trap_where (holds comparison first second)
     carried_out SystemCall = exception 8
     carried_out Breakpoint = exception 9
     carried_out Synchronize = effect.Nothing

@@ -3,17 +3,17 @@ use Rattle.std.specs.Prelude.{◌≡◌, ◌<◌, ◌≤◌, ◌==◌, ◌+◌, 
 use Rattle.mips3_table.specs.declared.instruction.Inst.{Inst}
 use Rattle.mips3_table.specs.declared.operand_forms.Form.{Form}
 use Rattle.mips3_table.specs.declared.operations.Operation.{Operation}
-use Rattle.mips3_table.specs.declared.operations.Operation.TheVariants.{ShiftLeft, ShiftRightLogical, ShiftRightArithmetic, MoveFromCp0, MoveToCp0, ReadTlb, WriteIndexedTlb, WriteRandomTlb, ProbeTlb, ReturnFromException}
+use Rattle.mips3_table.specs.declared.operations.Operation.TheVariants.{Add, Subtract, And, Or, ExclusiveOr, NotOr, SetWhere, LoadUpper, ShiftLeft, ShiftRightLogical, ShiftRightArithmetic, Multiply, Divide, MoveFromHi, MoveFromLo, MoveToHi, MoveToLo, MoveFromCp0, MoveToCp0, ReadTlb, WriteIndexedTlb, WriteRandomTlb, ProbeTlb, ReturnFromException}
 use Rattle.mips3_table.specs.declared.operations.Width.{Width}
-use Rattle.mips3_table.specs.declared.operations.Width.TheVariants.{Word, Double}
+use Rattle.mips3_table.specs.declared.operations.Width.TheVariants.{Word}
 use Rattle.mips3_table.specs.declared.operations.Amount.{Amount}
-use Rattle.mips3_table.specs.declared.operations.Amount.TheVariants.{InField, InFieldPlus32, InRegister}
+use Rattle.mips3_table.specs.declared.operations.Amount.TheVariants.{InFieldPlus32}
 use Rattle.mips3_table.specs.Operands.{widths_of}
 use Rattle.mips3_exec.specs.declared.effects.Effect.{Effect}
-use Rattle.mips3_exec.specs.declared.effects.Effect.TheVariants.{Nothing, Set, HiLo, Jump, Touch, System, Raise}
+use Rattle.mips3_exec.specs.declared.effects.Effect.TheVariants.{Set, Jump, Touch, System, Raise}
 use Rattle.mips3_exec.specs.declared.effects.Touch.{Touch as Kind}
-use Rattle.mips3_exec.specs.declared.effects.Touch.TheVariants.{Load, Store, Link, Cond, Cache}
-use Rattle.mips3_exec.specs.Accesses.{moved, is_load, is_store, is_aligned}
+use Rattle.mips3_exec.specs.declared.effects.Touch.TheVariants.{Load, Store, Link, Cond}
+use Rattle.mips3_exec.specs.Accesses.{moved, is_load, is_store, is_aligned, begins_aligned}
 
 -- an instruction of this form: registers and amounts are below 32, and the number fits
 pub record HasFields (form : Form) (inst : Inst) : Type 0 where
@@ -33,6 +33,27 @@ shifts_within (ShiftLeft width by) = amount_fits by width
 shifts_within (ShiftRightLogical width by) = amount_fits by width
 shifts_within (ShiftRightArithmetic width by) = amount_fits by width
 shifts_within _ = true
+
+-- an operation whose result goes to a register, or to HI and LO, whatever the memory and coprocessor 0 have
+abbrev pub is_computed : Operation → Bool
+is_computed (Add width overflow) = true
+is_computed (Subtract width overflow) = true
+is_computed And = true
+is_computed Or = true
+is_computed ExclusiveOr = true
+is_computed NotOr = true
+is_computed (SetWhere comparison) = true
+is_computed LoadUpper = true
+is_computed (ShiftLeft width by) = true
+is_computed (ShiftRightLogical width by) = true
+is_computed (ShiftRightArithmetic width by) = true
+is_computed (Multiply width signedness) = true
+is_computed (Divide width signedness) = true
+is_computed MoveFromHi = true
+is_computed MoveFromLo = true
+is_computed MoveToHi = true
+is_computed MoveToLo = true
+is_computed _ = false
 
 -- each register that an effect names is one of the 32
 abbrev pub HasRegisters : Effect → Type 0
@@ -102,3 +123,8 @@ pub record IsSmall (operation : Operation) (va first size : ℕ) : Type 0 where
 abbrev pub TouchesFew : Operation → Effect → Type 0
 TouchesFew operation (Touch kind va first size reg) = IsSmall operation va first size
 TouchesFew operation _ = Unit {0}
+
+-- whether an access is aligned as its operation wants is seen from its bytes
+abbrev pub AlignsByBytes : Operation → Effect → Type 0
+AlignsByBytes operation (Touch kind va first size reg) = is_aligned operation va ≡ begins_aligned first size
+AlignsByBytes operation _ = Unit {0}

@@ -86,3 +86,15 @@ pub fn moved(operation: Operation, va: u32) -> Reach
         _ => Reach { first: va, size: 1 },
     }
 }
+
+/// Whether an access is aligned as its operation wants, by the bytes that it touches.
+pub fn is_aligned(first: u32, size: u8) -> bool
+    ensures { result ≡ law.begins_aligned first size }
+{
+    match size {
+        2 => first % 2 == 0,
+        4 => first % 4 == 0,
+        8 => first % 8 == 0,
+        _ => true,
+    }
+}

@@ -1,13 +1,13 @@
 //! The effect of each operation.
 
-ghost use Rattle.std.specs.Prelude.{◌≡◌, ◌<◌, IsTrue};
+ghost use Rattle.std.specs.Prelude.{◌≡◌, ◌<◌, ◌*◌, ◌^◌, ℕ, pos, IsTrue};
 ghost use Rattle.mips3_alu.specs.Arithmetic as arithmetic;
 ghost use Rattle.mips3_exec.specs.Operands as operands;
 ghost use Rattle.mips3_exec.specs.Operands.{bits};
 ghost use Rattle.mips3_exec.specs.Effects as law;
 ghost use Rattle.mips3_exec.specs.Effects.{operation_of};
 ghost use Rattle.mips3_table.specs.Instructions.{IsInst};
-ghost use Rattle.mips3_exec.specs.Ranges.{HasFields, HasRegisters, LeavesSystem, RaisesItsOwn, TouchesFew, TouchesMoved, amount_fits, shifts_within};
+ghost use Rattle.mips3_exec.specs.Ranges.{AlignsByBytes, HasFields, HasRegisters, LeavesSystem, RaisesItsOwn, TouchesFew, TouchesMoved, amount_fits, is_computed, shifts_within};
 
 use crate::accesses::moved;
 use crate::effects::{Effect, Touch};
@@ -112,7 +112,7 @@ fn left_shift(width: Width, by: Amount, inst: &Inst, regs: &Regs) -> u64
     requires rt { inst.now.rt < 32 }
     requires sa { inst.now.sa < 32 }
     requires within { IsTrue (amount_fits by width) }
-    ensures { result ≡ arithmetic.shifted_left (bits width) (operands.shifted inst.now regs.now) (operands.amount by width inst.now regs.now) }
+    ensures { result ≡ arithmetic.shifted_left (bits width) (operands.shifted_of inst.now regs.now) (operands.amount_of by width inst.now regs.now) }
 {
     let value = regs.read(inst.rt);
     let amount = amount(by, width, inst, regs);
@@ -128,7 +128,7 @@ fn logical_shift(width: Width, by: Amount, inst: &Inst, regs: &Regs) -> u64
     requires rt { inst.now.rt < 32 }
     requires sa { inst.now.sa < 32 }
     requires within { IsTrue (amount_fits by width) }
-    ensures { result ≡ arithmetic.shifted_right_logical (bits width) (operands.shifted inst.now regs.now) (operands.amount by width inst.now regs.now) }
+    ensures { result ≡ arithmetic.shifted_right_logical (bits width) (operands.shifted_of inst.now regs.now) (operands.amount_of by width inst.now regs.now) }
 {
     let value = regs.read(inst.rt);
     let amount = amount(by, width, inst, regs);
@@ -144,7 +144,7 @@ fn arithmetic_shift(width: Width, by: Amount, inst: &Inst, regs: &Regs) -> u64
     requires rt { inst.now.rt < 32 }
     requires sa { inst.now.sa < 32 }
     requires within { IsTrue (amount_fits by width) }
-    ensures { result ≡ arithmetic.shifted_right_arithmetic (bits width) (operands.shifted inst.now regs.now) (operands.amount by width inst.now regs.now) }
+    ensures { result ≡ arithmetic.shifted_right_arithmetic (bits width) (operands.shifted_of inst.now regs.now) (operands.amount_of by width inst.now regs.now) }
 {
     let value = regs.read(inst.rt);
     let amount = amount(by, width, inst, regs);
@@ -162,7 +162,7 @@ fn exception(code: u8) -> Effect
 }
 
 // A value into a register, or the overflow exception where there is none.
-fn set_or_overflow(reg: u8, value: Option<u64>) -> Effect
+fn set_if_some(reg: u8, value: Option<u64>) -> Effect
     ensures { result ≡ law.set_or_overflow reg value }
 {
     match value {
@@ -171,14 +171,18 @@ fn set_or_overflow(reg: u8, value: Option<u64>) -> Effect
     }
 }
 
-// HI and LO.
-fn to_hi_and_lo(halves: Halves) -> Effect
+// Values into HI and LO.
+fn set_hi_and_lo(hi: u64, lo: u64) -> Effect
+    ensures { result ≡ Effect.HiLo hi lo }
+{
+    Effect::HiLo { hi, lo }
+}
+
+// Both halves into HI and LO.
+fn both(halves: Halves) -> Effect
     ensures { result ≡ law.to_hi_and_lo halves }
 {
-    Effect::HiLo {
-        hi: halves.hi,
-        lo: halves.lo,
-    }
+    set_hi_and_lo(halves.hi, halves.lo)
 }
 
 // The trap exception under a condition.
@@ -213,6 +217,22 @@ fn unusable(coprocessor: Coprocessor) -> Effect
     }
 }
 
+// A number in the upper half of a word, sign-extended.
+#[tactic(auto, unfolding(mips3_alu::specs::Arithmetic::reduced))]
+fn upper_half(number: u32) -> u64
+    ensures { result ≡ arithmetic.reduced 32 (pos (number * 2 ^ 16)) }
+{
+    sext32(number << 16)
+}
+
+// Whether a comparison holds of the operands.
+fn holds_of_operands(comparison: Comparison, form: Form, inst: &Inst, regs: &Regs) -> bool
+    requires { HasFields form inst.now }
+    ensures { result ≡ law.holds comparison (operands.first_of inst.now regs.now) (operands.second_of form inst.now regs.now) }
+{
+    holds(comparison, regs.read(inst.rs), second(form, inst, regs))
+}
+
 // A value into a register.
 fn set(reg: u8, value: u64) -> Effect
     ensures { result ≡ Effect.Set reg value }
@@ -221,17 +241,17 @@ fn set(reg: u8, value: u64) -> Effect
 }
 
 // A jump or a branch.
-fn go(
+fn jump(
+    taken: bool,
+    likely: bool,
+    link: Link,
     form: Form,
     inst: &Inst,
     regs: &Regs,
     pc: u32,
-    taken: bool,
-    likely: bool,
-    link: Link,
 ) -> Effect
     requires { HasFields form inst.now }
-    ensures { result ≡ law.go form inst.now regs.now pc taken likely link }
+    ensures { result ≡ law.jump form inst.now regs.now pc taken likely link }
 {
     Effect::Jump {
         taken,
@@ -258,6 +278,39 @@ fn access(kind: Touch, operation: Operation, form: Form, inst: &Inst, regs: &Reg
     }
 }
 
+// The effect of an operation that sets a register, or HI and LO.
+#[tactic(auto, unfolding(crate::specs::Effects::carried_out))]
+fn computed(operation: Operation, form: Form, inst: &Inst, regs: &Regs) -> Effect
+    requires fields { HasFields form inst.now }
+    requires within { IsTrue (shifts_within operation) }
+    requires computes { IsTrue (is_computed operation) }
+    ensures { (pc : ℕ) → result ≡ law.carried_out form inst.now regs.now pc operation }
+{
+    let first = regs.read(inst.rs);
+    let second = second(form, inst, regs);
+    let reg = destination(form, inst);
+    match operation {
+        Add(width, overflow) => set_if_some(reg, sum(overflow, width, first, second)),
+        Subtract(width, overflow) => set_if_some(reg, difference(overflow, width, first, second)),
+        And => set(reg, alu_and(first, second)),
+        Or => set(reg, alu_or(first, second)),
+        ExclusiveOr => set(reg, alu_xor(first, second)),
+        NotOr => set(reg, alu_nor(first, second)),
+        SetWhere(comparison) => set(reg, u64::from(holds(comparison, first, second))),
+        LoadUpper => set(reg, upper_half(inst.imm)),
+        ShiftLeft(width, by) => set(reg, left_shift(width, by, inst, regs)),
+        ShiftRightLogical(width, by) => set(reg, logical_shift(width, by, inst, regs)),
+        ShiftRightArithmetic(width, by) => set(reg, arithmetic_shift(width, by, inst, regs)),
+        Multiply(width, signedness) => both(product(signedness, width, first, second)),
+        Divide(width, signedness) => both(division(signedness, width, first, second)),
+        MoveFromHi => set(reg, regs.hi),
+        MoveFromLo => set(reg, regs.lo),
+        MoveToHi => set_hi_and_lo(first, regs.lo),
+        MoveToLo => set_hi_and_lo(regs.hi, first),
+        _ => unreachable!(),
+    }
+}
+
 // The effect of an operation on the operands of a form.
 #[tactic(auto, unfolding(crate::specs::Effects::carried_out))]
 fn carried_out(operation: Operation, form: Form, inst: &Inst, regs: &Regs, pc: u32) -> Effect
@@ -265,40 +318,13 @@ fn carried_out(operation: Operation, form: Form, inst: &Inst, regs: &Regs, pc: u
     requires within { IsTrue (shifts_within operation) }
     ensures { result ≡ law.carried_out form inst.now regs.now pc operation }
 {
-    let a = regs.read(inst.rs);
-    let b = second(form, inst, regs);
-    let reg = destination(form, inst);
     match operation {
-        Jump(link) => go(form, inst, regs, pc, true, false, link),
+        Jump(link) => jump(true, false, link, form, inst, regs, pc),
         Branch(comparison, slot, link) => {
-            go(
-                form,
-                inst,
-                regs,
-                pc,
-                holds(comparison, a, b),
-                is_likely(slot),
-                link,
-            )
+            let taken = holds_of_operands(comparison, form, inst, regs);
+            jump(taken, is_likely(slot), link, form, inst, regs, pc)
         }
-        Add(width, overflow) => set_or_overflow(reg, sum(overflow, width, a, b)),
-        Subtract(width, overflow) => set_or_overflow(reg, difference(overflow, width, a, b)),
-        And => set(reg, alu_and(a, b)),
-        Or => set(reg, alu_or(a, b)),
-        ExclusiveOr => set(reg, alu_xor(a, b)),
-        NotOr => set(reg, alu_nor(a, b)),
-        SetWhere(comparison) => set(reg, u64::from(holds(comparison, a, b))),
-        LoadUpper => set(reg, sext32(inst.imm << 16)),
-        ShiftLeft(width, by) => set(reg, left_shift(width, by, inst, regs)),
-        ShiftRightLogical(width, by) => set(reg, logical_shift(width, by, inst, regs)),
-        ShiftRightArithmetic(width, by) => set(reg, arithmetic_shift(width, by, inst, regs)),
-        Multiply(width, signedness) => to_hi_and_lo(product(signedness, width, a, b)),
-        Divide(width, signedness) => to_hi_and_lo(division(signedness, width, a, b)),
-        MoveFromHi => set(reg, regs.hi),
-        MoveFromLo => set(reg, regs.lo),
-        MoveToHi => Effect::HiLo { hi: a, lo: regs.lo },
-        MoveToLo => Effect::HiLo { hi: regs.hi, lo: a },
-        TrapWhere(comparison) => trap_where(holds(comparison, a, b)),
+        TrapWhere(comparison) => trap_where(holds_of_operands(comparison, form, inst, regs)),
         SystemCall => exception(SYSTEM_CALL),
         Breakpoint => exception(BREAKPOINT),
         Synchronize => Effect::Nothing,
@@ -317,6 +343,7 @@ fn carried_out(operation: Operation, form: Form, inst: &Inst, regs: &Regs, pc: u
         | WriteRandomTlb
         | ProbeTlb
         | ReturnFromException => Effect::System { row: inst.row },
+        _ => computed(operation, form, inst, regs),
     }
 }
 
@@ -330,6 +357,7 @@ pub fn effect(inst: &Inst, regs: &Regs, pc: u32) -> Effect
     ensures raised { RaisesItsOwn result }
     ensures access { TouchesMoved (operation_of inst.now) result }
     ensures few { TouchesFew (operation_of inst.now) result }
+    ensures aligned { AlignsByBytes (operation_of inst.now) result }
 {
     let row = record_of(inst.row);
     carried_out(row.operation, row.form, inst, regs, pc)

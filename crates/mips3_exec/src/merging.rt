@@ -34,6 +34,7 @@ fn low_bytes(count: u8, value: u64) -> u64
 }
 
 // A word or a doubleword as a register.
+#[tactic(auto, unfolding(mips3_alu::specs::Arithmetic::reduced))]
 fn as_register(width: Width, value: u64) -> u64
     ensures { result ≡ law.as_register sign.Signed (8 * law.bytes_of_width width) value }
 {
@@ -44,6 +45,7 @@ fn as_register(width: Width, value: u64) -> u64
 }
 
 // The bytes of a whole unit as a register.
+#[tactic(auto, unfolding(mips3_alu::specs::Arithmetic::reduced, mips3_alu::specs::Arithmetic::unsigned))]
 fn extended(size: Size, signedness: Signedness, bytes: u64) -> u64
     requires { bytes < 256 ^ law.bytes_of_size size }
     ensures { result ≡ law.as_register signedness (8 * law.bytes_of_size size) bytes }

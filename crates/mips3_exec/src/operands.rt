@@ -28,7 +28,7 @@ pub fn low_word(value: u64) -> u32
 // The form's number.
 fn number(form: Form, inst: &Inst) -> u64
     requires { HasFields form inst.now }
-    ensures { result ≡ law.number form inst.now }
+    ensures { result ≡ law.number_of form inst.now }
 {
     match form {
         Form::SignedImmediate | Form::TrapImmediate | Form::Memory | Form::CacheOperation => {
@@ -41,7 +41,7 @@ fn number(form: Form, inst: &Inst) -> u64
 /// The second operand: the number of an immediate form, zero for a branch on one register, and else register rt.
 pub fn second(form: Form, inst: &Inst, regs: &Regs) -> u64
     requires { HasFields form inst.now }
-    ensures { result ≡ law.second form inst.now regs.now }
+    ensures { result ≡ law.second_of form inst.now regs.now }
 {
     match form {
         Form::SignedImmediate | Form::TrapImmediate => sign_extended(inst.imm),
@@ -56,7 +56,7 @@ pub fn amount(by: Amount, width: Width, inst: &Inst, regs: &Regs) -> u32
     requires rs { inst.now.rs < 32 }
     requires sa { inst.now.sa < 32 }
     requires within { IsTrue (amount_fits by width) }
-    ensures value { result ≡ law.amount by width inst.now regs.now }
+    ensures value { result ≡ law.amount_of by width inst.now regs.now }
     ensures small { result < law.bits width }
 {
     match by {
@@ -71,7 +71,7 @@ pub fn amount(by: Amount, width: Width, inst: &Inst, regs: &Regs) -> u32
 
 /// The register that gets the result.
 pub fn destination(form: Form, inst: &Inst) -> u8
-    ensures { result ≡ law.destination form inst.now }
+    ensures { result ≡ law.destination_of form inst.now }
 {
     match form {
         Form::Shift
@@ -87,7 +87,7 @@ pub fn destination(form: Form, inst: &Inst) -> u8
 /// The address of a load, a store or a cache operation.
 pub fn address(form: Form, inst: &Inst, regs: &Regs) -> u32
     requires { HasFields form inst.now }
-    ensures { result ≡ law.address form inst.now regs.now }
+    ensures { result ≡ law.address_of form inst.now regs.now }
 {
     low_word(regs.read(inst.rs).wrapping_add(number(form, inst)))
 }
@@ -95,7 +95,7 @@ pub fn address(form: Form, inst: &Inst, regs: &Regs) -> u32
 /// Where a jump or a branch at pc goes.
 pub fn target(form: Form, inst: &Inst, regs: &Regs, pc: u32) -> u32
     requires { HasFields form inst.now }
-    ensures { result ≡ law.target form inst.now regs.now pc }
+    ensures { result ≡ law.target_of form inst.now regs.now pc }
 {
     match form {
         Form::Target => jump_target(pc, inst.imm),
@@ -116,6 +116,7 @@ pub fn link_register(link: Link, inst: &Inst) -> u8
 }
 
 /// The link of a jump or a branch at pc, or 0.
+#[tactic(auto, unfolding(mips3_alu::specs::Arithmetic::reduced))]
 pub fn link_value(link: Link, pc: u32) -> u64
     ensures { result ≡ law.link_value link pc }
 {

@@ -4,13 +4,13 @@ ghost use Rattle.std.specs.Prelude.{◌≡◌, ◌<◌, ◌^◌, true};
 ghost use Rattle.mips3_table.specs.Instructions.{IsInst};
 ghost use Rattle.cp0_exceptions.specs.Causes.{IsRaised};
 ghost use Rattle.mips3_exec.specs.declared.talk.StepEnd.TheVariants.{Went, Trapped};
-ghost use Rattle.mips3_exec.specs.Accesses.{is_aligned};
 ghost use Rattle.mips3_exec.specs.Effects.{operation_of};
 ghost use Rattle.mips3_exec.specs.Processor.{advanced, taken};
 ghost use Rattle.mips3_exec.specs.Ranges.{IsAccess, IsSmall, reads, writes};
 ghost use Rattle.mips3_exec.specs.Talk.{hold, is_access};
 ghost use Rattle.mips3_exec.specs.References as law;
 
+use crate::accesses::is_aligned;
 use crate::effects::Touch;
 use crate::merging::{loaded, stored};
 use crate::processor::Cpu;
@@ -19,7 +19,7 @@ use crate::talk::{Access, MemorySystem, Reply, Request, StepEnd};
 use cp0_exceptions::Raised;
 use cp0_exceptions::codes::{BUS_DATA, COHERENCY_DATA};
 use cp0_regs::registers::TAG_LO;
-use mips3_table::{Inst, Operation, Size, Width, operation_of};
+use mips3_table::{Inst, operation_of};
 
 /// What an instruction wants of memory.
 #[derive(Clone, Copy)]
@@ -33,23 +33,6 @@ pub struct Reference {
     pub size: u8,
     /// The general register, or the code of a cache operation.
     pub reg: u8,
-}
-
-// Whether an address is aligned as an operation wants it.
-fn is_aligned(operation: Operation, va: u32) -> bool
-    ensures aligned { result ≡ is_aligned operation va }
-{
-    match operation {
-        Operation::Load(Size::Half, _) | Operation::Store(Size::Half) => va % 2 == 0,
-        Operation::Load(Size::Wide(width), _)
-        | Operation::Store(Size::Wide(width))
-        | Operation::LoadLinked(width)
-        | Operation::StoreConditional(width) => match width {
-            Width::Word => va % 4 == 0,
-            Width::Double => va % 8 == 0,
-        },
-        _ => true,
-    }
 }
 
 /// Takes an exception, which ends the step.

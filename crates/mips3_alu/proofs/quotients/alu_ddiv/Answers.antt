@@ -1,5 +1,5 @@
 -- The machine's quotient and remainder have the registers of those of the integers.
-use Rattle.std.proofs.Common.{ap, ◌∙◌, sym, refl, rules}
+use Rattle.std.proofs.Common.{ap, ◌∙◌, sym, rules}
 use Rattle.std.specs.Prelude.{ℤ, FitsSigned}
 use Rattle.std.specs.Int.{w64}
 use Rattle.std.proofs.lemmas.Int.{to_z-of_z}
@@ -12,7 +12,7 @@ unfolding division
 returns-then-divisor-eq0 c =
     let fits_x : FitsSigned w64 c.integer_of-dividend.result = search rules in
     let fits_y : FitsSigned w64 c.integer_of-divisor.result = search rules in
-    same_halves _ _ _ _ (c.register_of.ensures ∙ ap (reduced 64) (to_z-of_z w64 c.integer_of-dividend.result fits_x)) refl
+    same_halves _ _ _ _ (c.by_zero.ensures.hi ∙ c.register_of.ensures ∙ ap (reduced 64) (to_z-of_z w64 c.integer_of-dividend.result fits_x)) c.by_zero.ensures.lo
     ∙ sym (by_zero 64 c.integer_of-dividend.result c.integer_of-divisor.result (zero_64 c.integer_of-divisor.result fits_y c.if-divisor-eq0.true))
     ∙ ap (λ (x : ℤ). divided 64 x c.integer_of-divisor.result) c.integer_of-dividend.ensures
     ∙ ap (divided 64 (signed 64 c.args.a)) c.integer_of-divisor.ensures

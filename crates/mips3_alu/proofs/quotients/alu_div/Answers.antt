@@ -1,5 +1,5 @@
 -- The machine's quotient and remainder have the registers of those of the integers.
-use Rattle.std.proofs.Common.{ap, ◌∙◌, sym, refl, rules}
+use Rattle.std.proofs.Common.{ap, ◌∙◌, sym, rules}
 use Rattle.std.specs.Prelude.{ℤ, FitsSigned}
 use Rattle.std.specs.Int.{w32}
 use Rattle.std.proofs.lemmas.Int.{to_z-of_z}
@@ -12,7 +12,7 @@ unfolding division
 returns-then-divisor-eq0 c =
     let fits_x : FitsSigned w32 c.integer_of_word-dividend.result = search rules in
     let fits_y : FitsSigned w32 c.integer_of_word-divisor.result = search rules in
-    same_halves _ _ _ _ (c.register_of_word.ensures ∙ ap (reduced 32) (to_z-of_z w32 c.integer_of_word-dividend.result fits_x)) refl
+    same_halves _ _ _ _ (c.by_zero.ensures.hi ∙ c.register_of_word.ensures ∙ ap (reduced 32) (to_z-of_z w32 c.integer_of_word-dividend.result fits_x)) c.by_zero.ensures.lo
     ∙ sym (by_zero 32 c.integer_of_word-dividend.result c.integer_of_word-divisor.result (zero_32 c.integer_of_word-divisor.result fits_y c.if-divisor-eq0.true))
     ∙ ap (λ (x : ℤ). divided 32 x c.integer_of_word-divisor.result) c.integer_of_word-dividend.ensures
     ∙ ap (divided 32 (signed 32 c.args.a)) c.integer_of_word-divisor.ensures

@@ -1,6 +1,5 @@
 -- What is known of every effect is known of the one of the row's operation.
-use Rattle.std.proofs.Common.{sym}
-use Rattle.mips3_exec.proofs.EffectFacts.{registers_of, system_of, raised_of, access_of, few_of}
+use Rattle.mips3_exec.proofs.EffectFacts.{registers_of, system_of, raised_of, access_of, few_of, aligned_of}
 use Rattle.mips3_exec.proofs.TableFacts.{fields_by}
 use Rattle.mips3_exec.proofs.executing.effect.Goals as goal
 
@@ -22,3 +21,7 @@ returns-clause-access c =
 pub returns-clause-few : goal.returns-clause-few
 returns-clause-few c =
     rw (c.carried_out.ensures, ← c.record_of-row.ensures.operation) (few_of _ c.args.inst.now c.args.regs.now c.args.pc _)
+
+pub returns-clause-aligned : goal.returns-clause-aligned
+returns-clause-aligned c =
+    rw (c.carried_out.ensures, ← c.record_of-row.ensures.operation) (aligned_of _ c.args.inst.now c.args.regs.now c.args.pc _)
