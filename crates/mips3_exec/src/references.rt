@@ -4,6 +4,7 @@ ghost use Rattle.std.specs.Prelude.{◌≡◌, ◌<◌, ◌^◌, true};
 ghost use Rattle.mips3_table.specs.Instructions.{IsInst};
 ghost use Rattle.cp0_exceptions.specs.Causes.{IsRaised};
 ghost use Rattle.mips3_exec.specs.declared.talk.StepEnd.TheVariants.{Went, Trapped};
+ghost use Rattle.mips3_exec.specs.Accesses.{begins_aligned, is_aligned};
 ghost use Rattle.mips3_exec.specs.Effects.{operation_of};
 ghost use Rattle.mips3_exec.specs.Processor.{advanced, taken};
 ghost use Rattle.mips3_exec.specs.Ranges.{IsAccess, IsSmall, reads, writes};
@@ -19,7 +20,7 @@ use crate::talk::{Access, MemorySystem, Reply, Request, StepEnd};
 use cp0_exceptions::Raised;
 use cp0_exceptions::codes::{BUS_DATA, COHERENCY_DATA};
 use cp0_regs::registers::TAG_LO;
-use mips3_table::{Inst, operation_of};
+use mips3_table::Inst;
 
 /// What an instruction wants of memory.
 #[derive(Clone, Copy)]
@@ -100,12 +101,13 @@ fn load<M: MemorySystem>(cpu: &mut Cpu, memory: &mut M, inst: &Inst, r: Referenc
     requires reads { reads r.kind ≡ true }
     requires access { IsAccess (operation_of inst.now) r.kind r.va r.first r.size }
     requires small { IsSmall (operation_of inst.now) r.va r.first r.size }
+    requires aligned { is_aligned (operation_of inst.now) r.va ≡ begins_aligned r.first r.size }
     ensures end { result ≡ (hold M.ask_gives memory.old (law.load cpu.old inst.now r)).end }
     ensures cpu { cpu.new ≡ (hold M.ask_gives memory.old (law.load cpu.old inst.now r)).cpu }
     ensures memory { memory.new ≡ (hold M.ask_gives memory.old (law.load cpu.old inst.now r)).memory }
     ensures ticks { cpu.new.ticks ≡ cpu.old.ticks }
 {
-    if !is_aligned(operation_of(inst.row), r.va) {
+    if !is_aligned(r.first, r.size) {
         return trap(cpu, address_error(false, r.va));
     }
     match route_of(cpu, false, r.first, r.va) {
@@ -194,12 +196,13 @@ fn store<M: MemorySystem>(cpu: &mut Cpu, memory: &mut M, inst: &Inst, r: Referen
     requires writes { writes r.kind ≡ true }
     requires access { IsAccess (operation_of inst.now) r.kind r.va r.first r.size }
     requires small { IsSmall (operation_of inst.now) r.va r.first r.size }
+    requires aligned { is_aligned (operation_of inst.now) r.va ≡ begins_aligned r.first r.size }
     ensures end { result ≡ (hold M.ask_gives memory.old (law.store cpu.old inst.now r)).end }
     ensures cpu { cpu.new ≡ (hold M.ask_gives memory.old (law.store cpu.old inst.now r)).cpu }
     ensures memory { memory.new ≡ (hold M.ask_gives memory.old (law.store cpu.old inst.now r)).memory }
     ensures ticks { cpu.new.ticks ≡ cpu.old.ticks }
 {
-    if !is_aligned(operation_of(inst.row), r.va) {
+    if !is_aligned(r.first, r.size) {
         return trap(cpu, address_error(true, r.va));
     }
     match route_of(cpu, true, r.first, r.va) {
@@ -252,6 +255,7 @@ pub fn refer<M: MemorySystem>(cpu: &mut Cpu, memory: &mut M, inst: &Inst, r: Ref
     requires reg { r.reg < 32 }
     requires access { IsAccess (operation_of inst.now) r.kind r.va r.first r.size }
     requires small { IsSmall (operation_of inst.now) r.va r.first r.size }
+    requires aligned { is_aligned (operation_of inst.now) r.va ≡ begins_aligned r.first r.size }
     ensures end { result ≡ (hold M.ask_gives memory.old (law.refer cpu.old inst.now r)).end }
     ensures cpu { cpu.new ≡ (hold M.ask_gives memory.old (law.refer cpu.old inst.now r)).cpu }
     ensures memory { memory.new ≡ (hold M.ask_gives memory.old (law.refer cpu.old inst.now r)).memory }

@@ -4,7 +4,7 @@ ghost use Rattle.std.specs.Prelude.{◌≡◌, IfSome};
 ghost use Rattle.mips3_table.specs.Instructions.{IsInst};
 ghost use Rattle.cp0_exceptions.specs.Causes.{IsRaised};
 ghost use Rattle.mips3_exec.specs.Effects.{operation_of};
-ghost use Rattle.mips3_exec.specs.Ranges.{HasRegisters, RaisesItsOwn, TouchesMoved, TouchesFew};
+ghost use Rattle.mips3_exec.specs.Ranges.{AlignsByBytes, HasRegisters, RaisesItsOwn, TouchesMoved, TouchesFew};
 ghost use Rattle.mips3_exec.specs.Talk.{hold};
 ghost use Rattle.mips3_exec.specs.Step as law;
 
@@ -30,6 +30,7 @@ fn perform<M: MemorySystem>(cpu: &mut Cpu, memory: &mut M, inst: &Inst, effect: 
     requires raised { RaisesItsOwn effect }
     requires moved { TouchesMoved (operation_of inst.now) effect }
     requires few { TouchesFew (operation_of inst.now) effect }
+    requires aligned { AlignsByBytes (operation_of inst.now) effect }
     ensures end { result ≡ (hold M.ask_gives memory.old (law.perform cpu.old inst.now effect)).end }
     ensures cpu { cpu.new ≡ (hold M.ask_gives memory.old (law.perform cpu.old inst.now effect)).cpu }
     ensures memory { memory.new ≡ (hold M.ask_gives memory.old (law.perform cpu.old inst.now effect)).memory }
