@@ -1,5 +1,5 @@
 -- Numbers of so many bytes.
-use Rattle.std.proofs.Common.{◌≡◌, ℕ, zero, suc, ◌+◌, ◌-◌, ◌*◌, ◌^◌, ◌<◌, ◌≤◌, List, [], ◌∷◌, ◌++◌, length, take, drop, fold, slice_index, get_or, refl, sym, ap, ◌∙◌, arith, pow-suc, mul_comm, length-drop}
+use Rattle.std.proofs.Common.{◌≡◌, ℕ, zero, suc, ◌+◌, ◌-◌, ◌*◌, ◌%◌, ◌^◌, ◌<◌, ◌≤◌, List, [], ◌∷◌, ◌++◌, length, take, drop, fold, slice_index, get_or, refl, sym, ap, ◌∙◌, arith, pow-suc, mul_comm, length-drop}
 use Rattle.std.proofs.Math.Nat.{pow-le-pow_right}
 use Rattle.std.proofs.lemmas.List.{drop_more, take_more, take_all, get_or-drop}
 use Rattle.std.proofs.lemmas.List.Sums.{fold-append}
@@ -62,3 +62,33 @@ low_bytes count number most =
     ap (λ n. take (8 - (8 - count)) (drop (8 - count) (bytes_high_first n number))) all
     ∙ ap (take (8 - (8 - count))) (dropped (8 - count) count number)
     ∙ take_all (8 - (8 - count)) (bytes_high_first count number) (omega (arith, length_bytes count number))
+
+-- powers of 256 as powers of 2, up to the seventh
+pub shift_is : (count : ℕ) → count < 8 → 2 ^ (8 * count) ≡ 256 ^ count
+shift_is zero small = refl
+shift_is (suc zero) small = refl
+shift_is (suc (suc zero)) small = refl
+shift_is (suc (suc (suc zero))) small = refl
+shift_is (suc (suc (suc (suc zero)))) small = refl
+shift_is (suc (suc (suc (suc (suc zero))))) small = refl
+shift_is (suc (suc (suc (suc (suc (suc zero)))))) small = refl
+shift_is (suc (suc (suc (suc (suc (suc (suc zero))))))) small = refl
+shift_is (suc (suc (suc (suc (suc (suc (suc (suc count)))))))) small = absurd (omega arith)
+
+pub power_is : (count : ℕ) → count < 8 → 1 * 2 ^ (8 * count) % 2 ^ 64 ≡ 256 ^ count
+power_is zero small = refl
+power_is (suc zero) small = refl
+power_is (suc (suc zero)) small = refl
+power_is (suc (suc (suc zero))) small = refl
+power_is (suc (suc (suc (suc zero)))) small = refl
+power_is (suc (suc (suc (suc (suc zero))))) small = refl
+power_is (suc (suc (suc (suc (suc (suc zero)))))) small = refl
+power_is (suc (suc (suc (suc (suc (suc (suc zero))))))) small = refl
+power_is (suc (suc (suc (suc (suc (suc (suc (suc count)))))))) small = absurd (omega arith)
+
+pub power_some : (count : ℕ) → 0 < 256 ^ count
+power_some count = pow-le-pow_right {n = 256} (omega arith) {i = 0} {j = count} (omega arith)
+
+-- eight bytes hold every number of 64 bits
+pub all_eight : (number count : ℕ) → number < 2 ^ 64 → 8 ≤ count → count ≤ 8 → number % 256 ^ count ≡ number
+all_eight number count small low high = let eight : count ≡ 8 = omega arith in ap (λ n. number % 256 ^ n) eight ∙ omega arith

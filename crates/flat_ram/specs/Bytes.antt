@@ -2,7 +2,7 @@
 -- after some of its bytes were replaced.
 -- Source: MIPS R4000 Microprocessor User's Manual (Heinrich, 2nd edition), byte numbering in big-endian
 -- configuration.
-use Rattle.std.specs.Prelude.{ℕ, ◌+◌, ◌*◌, ◌/◌, ◌%◌, ◌^◌, List, [], ◌∷◌, ◌++◌, take, drop, fold, replicate, length, slice_index}
+use Rattle.std.specs.Prelude.{ℕ, ◌-◌, ◌+◌, ◌*◌, ◌/◌, ◌%◌, ◌^◌, List, [], ◌∷◌, ◌++◌, take, drop, fold, replicate, length, slice_index}
 
 -- so many zero bytes
 unfoldable pub zeros_of : ℕ → List ℕ
@@ -36,6 +36,14 @@ number_of_bytes bytes = fold (λ high byte. high * 256 + byte) 0 bytes
 -- the number that stands in so many bytes from a place on
 abbrev pub number_at : List ℕ → ℕ → ℕ → ℕ
 number_at all at count = number_of_bytes (bytes_at all at count)
+
+-- the aligned doubleword of two words, the first one higher, in which the byte at a place of a list of words lies
+abbrev pub double_at : List ℕ → ℕ → ℕ
+double_at words at = slice_index words (at / 8 * 2) * 2 ^ 32 + slice_index words (at / 8 * 2 + 1)
+
+-- the number that stands in so many bytes of a list of words from a place on, all of them in one doubleword
+abbrev pub number_in_words : List ℕ → ℕ → ℕ → ℕ
+number_in_words words at count = double_at words at / 256 ^ (8 - at % 8 - count) % 256 ^ count
 
 -- the list with these bytes in place of those from a place on
 abbrev pub put_bytes : List ℕ → ℕ → List ℕ → List ℕ

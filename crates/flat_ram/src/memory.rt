@@ -15,6 +15,37 @@ pub struct Prom {
     pub words: [u32; 1024],
 }
 
+// The low bytes of a number, up to eight of them.
+#[tactic(auto, using(crate::proofs::Numbers::power_is, crate::proofs::Numbers::power_some, crate::proofs::Numbers::all_eight))]
+fn low_bytes(count: u8, number: u64) -> u64
+    requires most { count ≤ 8 }
+    ensures value { result ≡ number % 256 ^ count }
+    ensures fits { result < 256 ^ count }
+{
+    if count < 8 {
+        number % (1 << (8 * u32::from(count)))
+    } else {
+        number
+    }
+}
+
+impl Prom {
+    /// The number that stands in up to eight bytes from a place on, the high byte first; they lie in one doubleword.
+    #[tactic(auto, using(crate::proofs::Numbers::shift_is))]
+    pub fn number(&self, at: usize, size: u8) -> u64
+        requires some { 1 ≤ size }
+        requires within { at % 8 + size ≤ 8 }
+        requires place { at < 4096 }
+        ensures value { result ≡ law.number_in_words self.now.words at size }
+        ensures fits { result < 256 ^ size }
+    {
+        let double = u64::from(self.words[at / 8 * 2]) * 0x1_0000_0000
+            + u64::from(self.words[at / 8 * 2 + 1]);
+        let after = 8 - (at % 8) as u32 - u32::from(size);
+        low_bytes(size, double >> (8 * after))
+    }
+}
+
 /// The RAM: `RAM_SIZE` bytes.
 #[derive(Drop)]
 pub struct Ram {

@@ -1,13 +1,6 @@
-pub mod SystemControl
-pub mod Lookaside
-pub mod Processor
-pub mod Talk
-pub mod Instructions
-pub mod Step
-pub mod Tick
 pub mod Output
 pub mod AddressMap
+pub mod Replies
 pub mod Machine
 pub mod Run
 pub mod Shown
-pub mod Report

@@ -7,11 +7,11 @@ use Rattle.elf_image.specs.Header.{entry_of}
 use Rattle.elf_image.specs.Loading.{loaded}
 use Rattle.machine_core.specs.declared.address_map.Bus.{Bus}
 use Rattle.machine_core.specs.declared.machine_state.Machine.{Machine}
-use Rattle.machine_core.specs.declared.ticking.Tick.{Tick}
+use Rattle.mips3_exec.specs.declared.ticking.Tick.{Tick}
 use Rattle.machine_core.specs.AddressMap.{bus_ask}
-use Rattle.machine_core.specs.Processor.{reset_cpu}
-use Rattle.machine_core.specs.Tick.{Ticked}
-use Rattle.machine_core.specs.Tick as any
+use Rattle.mips3_exec.specs.Processor.{reset_cpu}
+use Rattle.mips3_exec.specs.Tick.{Ticked}
+use Rattle.mips3_exec.specs.Tick as any
 
 -- the bus at reset: an image's bytes in RAM that is zero elsewhere, and nothing printed
 abbrev pub reset_bus : Prom → List ℕ → Bus

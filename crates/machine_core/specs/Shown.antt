@@ -1,44 +1,6 @@
--- What a view shows of a machine's state.
-use Rattle.std.specs.Prelude.{ℕ, Bool, List, Option}
-use Rattle.mips3_alu.specs.declared.registers.Regs.{Regs}
-use Rattle.machine_core.specs.declared.system_control.Cp0.{Cp0}
-use Rattle.machine_core.specs.declared.lookaside.Tlb.{Tlb}
+-- What a machine shows of its state.
 use Rattle.machine_core.specs.declared.machine_state.Machine.{Machine}
-use Rattle.machine_core.specs.declared.shown.View.{View}
-
--- the fields of a view, as values
-pub record Shown : Type 0 where
-  pub ticks : ℕ
-  pub halt : Option ℕ
-  pub pc : ℕ
-  pub npc : ℕ
-  pub slot : Bool
-  pub link : Bool
-  pub regs : Regs
-  pub cp0 : Cp0
-  pub tlb : Tlb
-  pub sector : ℕ
-  pub address : ℕ
-  pub status : ℕ
-  pub console : List ℕ
-
--- what a view shows
-abbrev pub shown_by : View → Shown
-shown_by view = record {
-  ticks = view.ticks;
-  halt = view.halt;
-  pc = view.pc;
-  npc = view.npc;
-  slot = view.slot;
-  link = view.link;
-  regs = view.regs.now;
-  cp0 = view.cp0.now;
-  tlb = view.tlb.now;
-  sector = view.sector;
-  address = view.address;
-  status = view.status;
-  console = view.console.now;
-}
+use Rattle.run_report.specs.Shown.{Shown}
 
 -- what a machine shows; it has no disk, so the disk's registers are zero
 abbrev pub shown_of : Machine → Shown
@@ -48,7 +10,7 @@ shown_of machine = record {
   pc = machine.cpu.pc;
   npc = machine.cpu.npc;
   slot = machine.cpu.slot;
-  link = machine.cpu.link;
+  link = machine.cpu.link.set;
   regs = machine.cpu.regs;
   cp0 = machine.cpu.cp0;
   tlb = machine.cpu.tlb;

@@ -1,13 +1,16 @@
 //! What answers at the physical addresses: RAM, the PROM, and three device registers.
 
-ghost use Rattle.std.specs.Prelude.{◌≡◌, ◌%◌};
+ghost use Rattle.std.specs.Prelude.{◌≡◌, ◌≤◌, ◌+◌, ◌%◌};
+ghost use Rattle.flat_ram.specs.Map.{spot_of};
 ghost use Rattle.machine_core.specs.AddressMap as law;
+ghost use Rattle.machine_core.specs.Replies.{IsReplyOf, IsWordReply};
 
 use crate::output::Console;
-use crate::talk::{Access, MemorySystem, Reply, Request};
-use flat_ram::{DEVICE_BASE, PROM_BASE, Prom, Ram, Spot, where_is};
 
-/// The RAM, the PROM and the devices, as uncached accesses to aligned words reach them.
+use flat_ram::{DEVICE_BASE, PROM_BASE, Prom, Ram, Spot, where_is};
+use mips3_exec::{MemorySystem, Reply, Request};
+
+/// The RAM, the PROM and the devices, as accesses past the caches reach them.
 #[derive(Drop)]
 pub struct Bus {
     pub ram: Ram,
@@ -26,64 +29,111 @@ pub const HALT: u64 = 0x20;
 /// The register ENTRY: a load gives the image's entry.
 pub const ENTRY: u64 = 0x24;
 
-// Whether an access is an uncached one to an aligned word.
-fn is_word(access: Access, size: u8) -> bool
-    ensures word { result ≡ law.is_word access size }
+// Whether so many bytes at an address are an aligned word.
+fn is_word(pa: u64, size: u8) -> bool
+    ensures word { result ≡ law.is_word pa size }
 {
-    !access.cached && size == 4 && access.pa % 4 == 0
+    size == 4 && pa % 4 == 0
+}
+
+// The reply to an access to a device register that is none of the three.
+fn elsewhere(offset: u64) -> Reply
+    ensures reply { result ≡ law.elsewhere offset }
+{
+    match offset {
+        0x04 | 0x08 | 0x10 | 0x14 | 0x18 | 0x1c => Reply::Missing,
+        _ => Reply::BusError,
+    }
+}
+
+// The reply to an access through the caches.
+fn cached_reply(spot: Spot) -> Reply
+    ensures reply { result ≡ law.cached_reply spot }
+{
+    match spot {
+        Spot::Ram => Reply::Missing,
+        _ => Reply::BusError,
+    }
 }
 
 impl Bus {
     ghost use Rattle.machine_core.specs.AddressMap as law;
 
-    // The word at an address of RAM or the PROM.
-    fn fetch(&self, pa: u64) -> Reply
-        requires { pa % 4 ≡ 0 }
-        ensures reply { result ≡ law.fetch_reply self.now pa }
+    // The word at an address, for a fetch.
+    fn fetch(&self, pa: u64, spot: Spot) -> Reply
+        requires spot { spot ≡ spot_of pa }
+        requires aligned { pa % 4 ≡ 0 }
+        ensures reply { result ≡ law.fetch_from self.now pa spot }
+        ensures answer { IsWordReply result }
     {
-        match where_is(pa) {
+        match spot {
             Spot::Ram => Reply::Value(u64::from(self.ram.word(pa))),
             Spot::Prom => Reply::Value(u64::from(self.prom.words[(pa - PROM_BASE) as usize / 4])),
-            Spot::Device | Spot::Empty => Reply::Missing,
+            Spot::Device | Spot::Empty => Reply::BusError,
         }
     }
 
-    // A load from a device register, or from RAM or the PROM.
-    fn load(&self, pa: u64) -> Reply
-        requires { pa % 4 ≡ 0 }
-        ensures reply { result ≡ law.load_reply self.now pa }
+    // A device register.
+    fn register(&self, offset: u64) -> Reply
+        ensures reply { result ≡ law.register_reply self.now offset }
+        ensures answer { IsWordReply result }
     {
-        match where_is(pa) {
-            Spot::Device => match pa - DEVICE_BASE {
-                OUT | HALT => Reply::Value(0),
-                ENTRY => Reply::Value(u64::from(self.entry)),
-                _ => Reply::Missing,
-            },
-            _ => self.fetch(pa),
+        match offset {
+            OUT | HALT => Reply::Value(0),
+            ENTRY => Reply::Value(u64::from(self.entry)),
+            _ => elsewhere(offset),
         }
     }
 
-    // A store to a device register, or to RAM.
-    fn store(&mut self, pa: u64, value: u32) -> Reply
-        requires { pa % 4 ≡ 0 }
-        ensures memory { self.new ≡ (law.store_outcome self.old pa value).memory }
-        ensures reply { result ≡ (law.store_outcome self.old pa value).reply }
+    // So many bytes at an address.
+    fn load(&self, pa: u64, size: u8, spot: Spot) -> Reply
+        requires spot { spot ≡ spot_of pa }
+        requires some { 1 ≤ size }
+        requires within { pa % 8 + size ≤ 8 }
+        ensures reply { result ≡ law.load_from self.now pa size spot }
+        ensures answer { IsReplyOf size result }
     {
-        match where_is(pa) {
-            Spot::Ram => {
-                self.ram.set_word(pa, value);
+        match spot {
+            Spot::Ram => Reply::Value(self.ram.number(pa, size)),
+            Spot::Prom => Reply::Value(self.prom.number((pa - PROM_BASE) as usize, size)),
+            Spot::Device if is_word(pa, size) => self.register(pa - DEVICE_BASE),
+            Spot::Device | Spot::Empty => Reply::BusError,
+        }
+    }
+
+    // Sets a device register.
+    fn set_register(&mut self, offset: u64, value: u32) -> Reply
+        ensures memory { self.new ≡ (law.register_outcome self.old offset value).memory }
+        ensures reply { result ≡ (law.register_outcome self.old offset value).reply }
+    {
+        match offset {
+            OUT => {
+                self.console.print((value % 256) as u8);
                 Reply::Stored
             }
-            Spot::Device => match pa - DEVICE_BASE {
-                OUT => {
-                    self.console.print((value % 256) as u8);
-                    Reply::Stored
-                }
-                HALT => Reply::Halt(value),
-                ENTRY => Reply::Stored,
-                _ => Reply::Missing,
-            },
-            Spot::Prom | Spot::Empty => Reply::Missing,
+            HALT => Reply::Halt(value),
+            ENTRY => Reply::Stored,
+            _ => elsewhere(offset),
+        }
+    }
+
+    // Sets so many bytes at an address.
+    fn store(&mut self, pa: u64, size: u8, value: u64, spot: Spot) -> Reply
+        requires spot { spot ≡ spot_of pa }
+        requires some { 1 ≤ size }
+        requires within { pa % 8 + size ≤ 8 }
+        ensures memory { self.new ≡ (law.store_to self.old pa size value spot).memory }
+        ensures reply { result ≡ (law.store_to self.old pa size value spot).reply }
+    {
+        match spot {
+            Spot::Ram => {
+                self.ram.set_number(pa, size, value);
+                Reply::Stored
+            }
+            Spot::Device if is_word(pa, size) => {
+                self.set_register(pa - DEVICE_BASE, (value % 4294967296) as u32)
+            }
+            Spot::Device | Spot::Prom | Spot::Empty => Reply::BusError,
         }
     }
 }
@@ -98,14 +148,32 @@ impl MemorySystem for Bus {
         match request {
             Request::Inputs { .. } | Request::Beat => Reply::Done,
             Request::Levels => Reply::Levels(0),
-            Request::Fetch { access } if is_word(access, 4) => self.fetch(access.pa),
-            Request::Load { access, size } if is_word(access, size) => self.load(access.pa),
+            Request::Fetch { access } => {
+                let spot = where_is(access.pa);
+                if access.cached {
+                    return cached_reply(spot);
+                }
+                self.fetch(access.pa, spot)
+            }
+            Request::Load { access, size } => {
+                let spot = where_is(access.pa);
+                if access.cached {
+                    return cached_reply(spot);
+                }
+                self.load(access.pa, size, spot)
+            }
             Request::Store {
                 access,
                 size,
                 value,
-            } if is_word(access, size) => self.store(access.pa, (value % 4294967296) as u32),
-            _ => Reply::Missing,
+            } => {
+                let spot = where_is(access.pa);
+                if access.cached {
+                    return cached_reply(spot);
+                }
+                self.store(access.pa, size, value, spot)
+            }
+            Request::Cache { .. } => Reply::Missing,
         }
     }
 }

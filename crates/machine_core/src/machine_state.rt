@@ -1,16 +1,16 @@
 //! The machine: the processor with its bus.
 
-ghost use Rattle.std.specs.Prelude.{◌≡◌, ◌+◌, ◌<◌, ◌≤◌, ◌^◌, ℕ, Some, IfOk};
-ghost use Rattle.machine_core.specs.declared.ticking.Tick.TheVariants.{Ran, Halted};
+ghost use Rattle.std.specs.Prelude.{◌≡◌, ◌+◌, ◌<◌, ◌≤◌, ◌^◌, ℕ, Some, IfOk, true};
+ghost use Rattle.mips3_exec.specs.declared.ticking.Tick.TheVariants.{Halted};
+ghost use Rattle.mips3_exec.specs.Tick.{goes_on};
 
 use crate::address_map::Bus;
 use crate::output::Console;
-use crate::processor::Cpu;
-use crate::shown::View;
-use crate::ticking::{Tick, make_tick};
 use elf_image::{Image, load};
 use flat_ram::{Prom, Ram};
+use mips3_exec::{Cpu, Tick, make_tick};
 use r4_words::Memory;
+use run_report::View;
 use std::alloc::Global;
 
 /// A machine of shape `pc/16`.
@@ -26,7 +26,8 @@ const CONFIG: u32 = 0x00028243;
 impl Machine {
     ghost use Rattle.machine_core.specs.Machine.{reset_of, tick_of};
     ghost use Rattle.machine_core.specs.Run.{run_of};
-    ghost use Rattle.machine_core.specs.Shown.{shown_by, shown_of};
+    ghost use Rattle.machine_core.specs.Shown.{shown_of};
+    ghost use Rattle.run_report.specs.Shown.{shown_by};
 
     /// The machine at reset, with an image loaded into RAM that is zero elsewhere.
     #[tactic(auto, unfolding(crate::specs::Machine::reset_of))]
@@ -54,14 +55,14 @@ impl Machine {
         requires { self.old.cpu.ticks < 4294967295 }
         ensures machine { self.new ≡ (tick_of self.old).machine }
         ensures answer { result ≡ (tick_of self.old).answer }
-        ensures ticks { result ≡ Tick.Ran → self.new.cpu.ticks ≡ self.old.cpu.ticks + 1 }
+        ensures ticks { goes_on result ≡ true → self.new.cpu.ticks ≡ self.old.cpu.ticks + 1 }
         ensures stands_still { (code : ℕ) → self.old.cpu.halt ≡ Some code →
             (self.new ≡ self.old) × (result ≡ Tick.Halted code) }
     {
         make_tick(&mut self.cpu, &mut self.bus)
     }
 
-    /// Makes so many ticks, up to one that halts or meets a part that is not built.
+    /// Makes so many ticks, up to one that halts or meets an access that is not built.
     #[tactic(auto, using(crate::proofs::Runs::run_of_none, crate::proofs::Runs::run_of_ran, crate::proofs::Runs::run_of_stopped))]
     pub fn run(&mut self, steps: u32) -> Tick
         requires { self.old.cpu.ticks + steps < 2 ^ 32 }
@@ -70,7 +71,7 @@ impl Machine {
     {
         for step in 0..steps {
             match self.tick() {
-                Tick::Ran => {}
+                Tick::Ran | Tick::Trapped(_) => {}
                 end => return end,
             }
         }
@@ -87,7 +88,7 @@ impl Machine {
             pc: self.cpu.pc,
             npc: self.cpu.npc,
             slot: self.cpu.slot,
-            link: self.cpu.link,
+            link: self.cpu.link.set,
             regs: &self.cpu.regs,
             cp0: &self.cpu.cp0,
             tlb: &self.cpu.tlb,
