@@ -20,8 +20,8 @@ fn name_beside(alloc: Global, name: &str, turn: u32) -> Result<String, AllocErro
     }
 }
 
-// Creates a file where nothing stands. Whom the permissions keep out can never open it: it has them from the start, but for
-// those that the process does not give to new files.
+// Creates a file where nothing stands. Where permissions are given it never has wider ones, so that nobody can open it whom
+// they keep out.
 fn create_new<R: Files>(
     rt: &R,
     name: &str,

@@ -7,7 +7,7 @@ use std::{fs, io};
 // A writer that takes at most so many bytes at once, and fails at one turn and at one flush. It keeps no byte, and says
 // whether each was the next of the row 0, 1, .. 250, 0, 1, ..
 #[derive(Drop)]
-struct Row {
+struct Witness {
     count: usize,
     in_order: bool,
     most: usize,
@@ -21,7 +21,7 @@ fn byte_at(place: usize) -> u8 {
     (place % 251) as u8
 }
 
-impl Write for Row {
+impl Write for Witness {
     fn write(&mut self, buf: &[u8]) -> io::Result<usize> {
         let turn = self.turns;
         self.turns = turn.wrapping_add(1);
@@ -46,8 +46,8 @@ impl Write for Row {
 
 const NEVER: usize = usize::MAX;
 
-fn row(most: usize, failing: usize, flush_fails: bool) -> StdSink<Row> {
-    StdSink::new(Row {
+fn witnessed(most: usize, failing: usize, flush_fails: bool) -> StdSink<Witness> {
+    StdSink::new(Witness {
         count: 0,
         in_order: true,
         most,
@@ -59,14 +59,14 @@ fn row(most: usize, failing: usize, flush_fails: bool) -> StdSink<Row> {
 
 // Writes so many pieces of the row, each of 100 bytes, and answers how many of them were taken.
 fn write_pieces<K: Sink>(sink: &mut K, pieces: usize) -> usize {
-    let mut taken = 0;
+    let mut taken = 0usize;
     for number in 0..pieces {
         let mut piece = [0; 100];
         for at in 0..100 {
             piece[at] = byte_at(number.wrapping_mul(100).wrapping_add(at));
         }
         if sink.write(&piece).is_ok() {
-            taken += 1;
+            taken = taken.wrapping_add(1);
         }
     }
     taken
@@ -75,13 +75,13 @@ fn write_pieces<K: Sink>(sink: &mut K, pieces: usize) -> usize {
 // 100000 bytes fill the buffer six times, and 1696 wait; 163 pieces fit in it.
 #[test]
 fn a_long_text_arrives_whole_and_in_order(rt: HostRuntime) {
-    let mut sink = row(NEVER, NEVER, false);
+    let mut sink = witnessed(NEVER, NEVER, false);
     assert_eq!(rt; write_pieces(&mut sink, 1000), 1000);
     assert_eq!(rt; sink.out.turns, 6);
     assert_eq!(rt; sink.out.count, 6 * 16300);
     assert!(rt; sink.flush().is_ok());
     assert!(rt; sink.out.count == 100000 && sink.out.in_order && sink.faults == 0);
-    let mut few = row(7, NEVER, false);
+    let mut few = witnessed(7, NEVER, false);
     assert_eq!(rt; write_pieces(&mut few, 1000), 1000);
     assert!(rt; few.flush().is_ok());
     assert!(rt; few.out.count == 100000 && few.out.in_order && few.faults == 0);
@@ -90,7 +90,7 @@ fn a_long_text_arrives_whole_and_in_order(rt: HostRuntime) {
 // The second buffer fails at the piece with number 326, counted from 0: those from there on fail, and so does the flush.
 #[test]
 fn nothing_goes_out_after_a_failure(rt: HostRuntime) {
-    let mut sink = row(NEVER, 1, false);
+    let mut sink = witnessed(NEVER, 1, false);
     assert_eq!(rt; write_pieces(&mut sink, 1000), 326);
     assert!(rt; sink.flush().is_err());
     assert!(rt; sink.out.count == 16300 && sink.out.in_order && sink.out.turns == 2);
@@ -99,7 +99,7 @@ fn nothing_goes_out_after_a_failure(rt: HostRuntime) {
 
 #[test]
 fn a_flush_that_fails_is_a_fault(rt: HostRuntime) {
-    let mut sink = row(NEVER, NEVER, true);
+    let mut sink = witnessed(NEVER, NEVER, true);
     assert!(rt; sink.write(&[0]).is_ok());
     assert!(rt; sink.flush().is_err());
     assert!(rt; sink.write(&[1]).is_err());
