@@ -70,6 +70,8 @@ impl<W: Write + Drop> StdSink<W> {
         requires { length piece.now ≤ 128 }
         ensures bytes { OnOk result (Appends (append_known (W.contents self.old.out) self.old.waiting.items)
             (append_known (W.contents self.new.out) self.new.waiting.items) piece.now) }
+        ensures part { OnErr result ((count : ℕ)
+            × Appends (W.contents self.old.out) (W.contents self.new.out) (take count self.old.waiting.items)) }
         ensures stopped { 0 < self.old.faults → IsErr result × (self.new.out ≡ self.old.out) }
         ensures counted { OnErr result (self.new.faults ≡ min (self.old.faults + 1) (2 ^ 64 - 1)) }
         ensures else_stays { OnOk result (self.new.faults ≡ self.old.faults) }
@@ -89,6 +91,8 @@ impl<W: Write + Drop> StdSink<W> {
         ensures bytes { OnOk result
             (Keeps (append_known (W.contents self.old.out) self.old.waiting.items) (W.contents self.new.out)) }
         ensures empty { OnOk result (self.new.waiting.items ≡ []) }
+        ensures part { OnErr result ((count : ℕ)
+            × Appends (W.contents self.old.out) (W.contents self.new.out) (take count self.old.waiting.items)) }
         ensures stopped { 0 < self.old.faults → IsErr result × (self.new.out ≡ self.old.out) }
         ensures counted { OnErr result (self.new.faults ≡ min (self.old.faults + 1) (2 ^ 64 - 1)) }
         ensures else_stays { OnOk result (self.new.faults ≡ self.old.faults) }
