@@ -1,6 +1,6 @@
 //! The listing of an image, written to a sink line by line.
 
-ghost use Rattle.std.specs.Prelude.{◌<◌, ◌≤◌, ◌+◌, ◌*◌, ◌^◌, length, OnOk, OnErr};
+ghost use Rattle.std.specs.Prelude.{◌≡◌, ◌<◌, ◌≤◌, ◌+◌, ◌*◌, ◌^◌, true, length, OnOk, OnErr};
 ghost use Rattle.r4_ports.specs.Told.{Appended, AppendedPrefix, HasCause};
 ghost use Rattle.r4_ports.specs.Writing.{Writes, stand};
 ghost use Rattle.elf_image.specs.Header.{count_of, segment_at, table_of};
@@ -55,10 +55,11 @@ fn write_segments<K: Sink>(image: &Image<'_>, out: &mut K, pending: &mut Pending
 }
 
 /// Writes the listing of an image: for each stored segment, in the order of the headers, a line for each whole word that
-/// the file has of it, with the word's address, the word and its text. Where a write fails, a prefix of the listing was
-/// written, and the segments that follow are not looked at.
+/// the file has of it, with the word's address, the word and its text. After Ok the listing has gone out. Where a write
+/// fails, a prefix of it was written, and the segments that follow are not looked at.
 pub fn write_listing<K: Sink>(image: &Image<'_>, out: &mut K) -> Result<(), SinkFault>
     ensures ok { OnOk result (Appended (K.written out.old) (K.written out.new) (listing_of image.now)) }
+    ensures flushed { OnOk result (K.is_flushed out.new ≡ true) }
     ensures err { OnErr result (AppendedPrefix (K.written out.old) (K.written out.new) (listing_of image.now)) }
     ensures cause { HasCause (K.faults out.old) (K.faults out.new) result }
 {

@@ -117,6 +117,17 @@ handed_over a b empty start took failed_at rose falls = record {
   never_falls = falls;
 }
 
+-- A sink was flushed: it tells what it told, and where the flush failed its count rose.
+pub flushed_over : (a b : Stand) → a.failed ≡ false → b.pending ≡ a.pending → b.written ≡ a.written → (b.failed ≡ true → Rose a.faults b.faults) → a.faults ≤ b.faults → Writes a b []
+flushed_over a b start pending written rose falls = record {
+  whole = λ before end. record { sent = []; is_all = pending ∙ sym (append-nil a.pending); appended = subst (λ w. Appended a.written w []) (sym written) (appended_nothing a.written) };
+  prefix = λ before end. record { front = []; rest = a.pending ++ []; is_text = refl; appended = subst (λ w. Appended a.written w []) (sym written) (appended_nothing a.written) };
+  cause = λ before end. rose end;
+  stays_failed = λ before. absurd (both a.failed before start);
+  nothing_more = λ before. written;
+  never_falls = falls;
+}
+
 -- THE WHOLE TEXT: from a fresh stand, with all handed over at the end
 
 -- without a failure the whole text was appended

@@ -11,7 +11,7 @@
 //! content speaks only of what is told. Names are the bytes of their text.
 #![tactic(auto)]
 
-ghost use Rattle.std.specs.Prelude.{◌≡◌, ◌≤◌, List, ℕ, length, [], ◌∷◌, IfOk, OnOk, OnErr, IsErrOf, Option, None};
+ghost use Rattle.std.specs.Prelude.{◌≡◌, ◌≤◌, List, ℕ, Bool, true, length, [], ◌∷◌, IfOk, OnOk, OnErr, IsErrOf, Option, None};
 ghost use Rattle.r4_ports.specs.Told.{Files, Call, fetch_of, put_of, Rose, HasCause, Appended, AppendedPrefix, Fetched, PutInto};
 
 mod call_log;
@@ -62,7 +62,7 @@ pub enum PutFault {
     Failed,
 }
 
-/// Why a sink did not take the whole piece.
+/// Why a sink did not take the whole piece, or did not hand on what it took.
 #[derive(Clone, Copy, Debug, Error)]
 pub enum SinkFault {
     /// The output could not be written.
@@ -117,12 +117,15 @@ pub trait Shelf {
         ensures fetch_faults { fetch_faults self.new ≡ fetch_faults self.old };
 }
 
-/// A sink of bytes, which are written to it in pieces.
+/// A sink of bytes, which are written to it in pieces. It may keep pieces back until it is flushed.
 pub trait Sink {
     /// All that was written so far, where it tells it.
     ghost written: { Self → Option (List ℕ) };
 
-    /// How many writes have failed.
+    /// Whether all that it took has gone out.
+    ghost is_flushed: { Self → Bool };
+
+    /// How many writes and flushes have failed.
     ghost faults: { Self → ℕ };
 
     /// Appends a piece of 1 to 128 bytes. It fails only where `faults` rises, and a prefix of the piece was
@@ -132,5 +135,11 @@ pub trait Sink {
         requires small { length piece.now ≤ 128 }
         ensures ok { OnOk result (Appended (written self.old) (written self.new) piece.now) }
         ensures err { OnErr result (AppendedPrefix (written self.old) (written self.new) piece.now) }
+        ensures cause { HasCause (faults self.old) (faults self.new) result };
+
+    /// Hands all that the sink took to the outside. It fails only where `faults` rises.
+    fn flush(&mut self) -> Result<(), SinkFault>
+        ensures flushed { OnOk result (is_flushed self.new ≡ true) }
+        ensures written { written self.new ≡ written self.old }
         ensures cause { HasCause (faults self.old) (faults self.new) result };
 }

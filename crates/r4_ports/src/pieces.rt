@@ -3,7 +3,7 @@
 //! A writer carries a `Pending` beside its sink: the bytes that do not fill a piece yet, and whether a write has failed.
 //! Each of its parts writes nothing once one has, so a writer is straight-line code, and each part promises `Writes` of
 //! its own text. The laws of `proofs/Writing.antt` join the parts' texts to the whole text, and `finish` hands over what
-//! is pending and makes the writer's answer.
+//! is pending, flushes the sink, and makes the writer's answer: so Ok says that the whole text has gone out.
 ghost use Rattle.std.specs.Prelude.{◌≡◌, ◌≤◌, length, OnOk, OnErr, [], true, false};
 ghost use Rattle.arrayvec.specs.ArrayVec.{array_vec_len};
 ghost use Rattle.r4_ports.specs.Told.{Appended, AppendedPrefix, HasCause};
@@ -47,6 +47,18 @@ fn hand_over<K: Sink>(out: &mut K, pending: &mut Pending)
     pending.piece.clear();
 }
 
+// Flushes the sink, unless a write failed before.
+fn flush<K: Sink>(out: &mut K, pending: &mut Pending)
+    ensures writes { Writes (stand K.written K.faults out.old pending.old)
+        (stand K.written K.faults out.new pending.new) [] }
+    ensures flushed { pending.new.failed ≡ false → K.is_flushed out.new ≡ true }
+    ensures piece { pending.new.piece ≡ pending.old.piece }
+{
+    if !pending.failed {
+        pending.failed = out.flush().is_err();
+    }
+}
+
 // Writes a piece, unless a write failed before.
 fn write_piece<K: Sink>(piece: &[u8], out: &mut K, pending: &mut Pending)
     requires { length piece.now ≤ 128 }
@@ -82,15 +94,17 @@ pub fn write_text<K: Sink>(text: &[u8], out: &mut K, pending: &mut Pending)
     }
 }
 
-/// Hands over what is pending, and gives a writer's answer.
+/// Hands over what is pending, flushes the sink, and gives a writer's answer: after Ok all that the sink took has gone out.
 pub fn finish<K: Sink>(out: &mut K, pending: &mut Pending) -> Result<(), SinkFault>
     ensures writes { Writes (stand K.written K.faults out.old pending.old)
         (stand K.written K.faults out.new pending.new) [] }
     ensures empty { pending.new.piece.items ≡ [] }
+    ensures flushed { OnOk result (K.is_flushed out.new ≡ true) }
     ensures ok { OnOk result (pending.new.failed ≡ false) }
     ensures err { OnErr result (pending.new.failed ≡ true) }
 {
     hand_over(out, pending);
+    flush(out, pending);
     if pending.failed {
         Err(SinkFault::Failed)
     } else {
@@ -98,9 +112,10 @@ pub fn finish<K: Sink>(out: &mut K, pending: &mut Pending) -> Result<(), SinkFau
     }
 }
 
-/// Writes a text of any length, and hands it over whole.
+/// Writes a text of any length, and hands it over whole. After Ok it has gone out.
 pub fn write_all<K: Sink>(text: &[u8], out: &mut K) -> Result<(), SinkFault>
     ensures ok { OnOk result (Appended (K.written out.old) (K.written out.new) text.now) }
+    ensures flushed { OnOk result (K.is_flushed out.new ≡ true) }
     ensures err { OnErr result (AppendedPrefix (K.written out.old) (K.written out.new) text.now) }
     ensures cause { HasCause (K.faults out.old) (K.faults out.new) result }
 {

@@ -9,7 +9,7 @@ use r4_words::Memory;
 use std::alloc::Global;
 use std::marker::Model;
 
-/// A sink that never fails, and whose count is 0. It tells what was written while that fits in its room.
+/// A sink that never fails, whose count is 0, and that keeps nothing back. It tells what was written while that fits in its room.
 #[derive(Drop)]
 pub struct SureSink {
     bytes: Vec<u8>,
@@ -51,6 +51,8 @@ impl SureSink {
 impl Sink for SureSink {
     ghost written = { λ s. s.written };
 
+    ghost is_flushed = { λ s. true };
+
     ghost faults = { λ s. 0 };
 
     fn write(&mut self, piece: &[u8]) -> Result<(), SinkFault>
@@ -63,6 +65,13 @@ impl Sink for SureSink {
         } else {
             self.is_whole = false;
         }
+        Ok(())
+    }
+
+    fn flush(&mut self) -> Result<(), SinkFault>
+        ensures never_fails { IsOk result }
+        ensures state { self.new ≡ self.old }
+    {
         Ok(())
     }
 }

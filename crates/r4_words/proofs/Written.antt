@@ -1,9 +1,11 @@
 -- How the digits of a number begin and go on.
-use Rattle.std.proofs.Common.{◌≡◌, ◌<◌, ◌≤◌, ◌+◌, ◌/◌, ◌%◌, ◌^◌, ◌-◌, ℕ, zero, suc, List, [], ◌∷◌, ◌++◌, map, length, refl, ap, sym, ◌∙◌, arith}
+use Rattle.std.proofs.Common.{◌≡◌, ◌<◌, ◌≤◌, ◌+◌, ◌*◌, ◌/◌, ◌%◌, ◌^◌, ◌-◌, ℕ, zero, suc, List, [], ◌∷◌, ◌++◌, map, length, refl, ap, sym, ◌∙◌, arith, append_assoc}
 use Rattle.std.specs.Int.Digits.{digits_of}
 use Rattle.std.proofs.lemmas.Int.Digits.{digits_of_step, length-digits_of-le}
 use Rattle.std.proofs.lemmas.List.{map-append, length-map}
+use Rattle.std.proofs.lemmas.Nat.{pow-add}
 use Rattle.std.proofs.lemmas.Grind.{common_steps}
+use Rattle.std.proofs.Math.Nat.{pow-suc, pow-le-pow_right, div-div-eq-div-mul, div-eq_of_lt}
 use Rattle.r4_words.specs.Texts.{hex_of, dec_of, digit_of}
 
 pub hex_of_none : (digits value : ℕ) → digits ≡ 0 → hex_of digits value ≡ []
@@ -15,6 +17,43 @@ pub hex_of_more : (digits value : ℕ) → 0 < digits → hex_of digits value �
 unfolding hex_of
 hex_of_more zero value lt = absurd (omega arith)
 hex_of_more (suc digits) value lt = let same : digits ≡ suc digits - 1 = omega arith in ap (λ d. hex_of d (value / 16) ++ digit_of (value % 16) ∷ []) same
+
+-- one digit more, from the high one on: those of a value from a place on
+pub hex_of_next : (value done below left : ℕ) → left ≡ below + 1 → hex_of (done + 1) (value / 16 ^ below) ≡ hex_of done (value / 16 ^ left) ++ digit_of (value / 16 ^ below % 16) ∷ []
+hex_of_next value done below left is =
+    let fewer : done + 1 - 1 ≡ done = omega arith in
+    let moved : value / 16 ^ below / 16 ≡ value / 16 ^ left = div-div-eq-div-mul value (16 ^ below) 16 ∙ ap (λ power. value / power) (sym (pow-suc 16 below)) ∙ ap (λ k. value / 16 ^ k) (omega (arith, is)) in
+    hex_of_more (done + 1) (value / 16 ^ below) (omega arith)
+    ∙ ap (λ d. hex_of d (value / 16 ^ below / 16) ++ digit_of (value / 16 ^ below % 16) ∷ []) fewer
+    ∙ ap (λ v. hex_of done v ++ digit_of (value / 16 ^ below % 16) ∷ []) moved
+
+-- a text with the high digits behind it, and one digit more
+pub hex_of_pushed : (value digits place : ℕ) (before front now : List ℕ) → place < digits → front ≡ before ++ hex_of place (value / 16 ^ (digits - place)) →
+    now ≡ front ++ digit_of (value / 16 ^ (digits - 1 - place) % 16) ∷ [] → now ≡ before ++ hex_of (place + 1) (value / 16 ^ (digits - (place + 1)))
+hex_of_pushed value digits place before front now lt is pushed =
+    let below = digits - 1 - place in
+    let last = digit_of (value / 16 ^ below % 16) ∷ [] in
+    let same : below ≡ digits - (place + 1) = omega arith in
+    pushed
+    ∙ ap (λ f. f ++ last) is
+    ∙ append_assoc before (hex_of place (value / 16 ^ (digits - place))) last
+    ∙ ap (λ more. before ++ more) (sym (hex_of_next value place below (digits - place) (omega arith)))
+    ∙ ap (λ k. before ++ hex_of (place + 1) (value / 16 ^ k)) same
+
+-- so many digits are four times as many bits
+sixteen_power : (digits : ℕ) → 16 ^ digits ≡ 2 ^ (4 * digits)
+sixteen_power zero = refl
+sixteen_power (suc digits) =
+    pow-suc 16 digits ∙ ap (λ power. power * 16) (sixteen_power digits) ∙ sym (pow-add 2 (4 * digits) 4) ∙ ap (λ bits. 2 ^ bits) (omega arith)
+
+pub div_shifted : (value below : ℕ) → value / 16 ^ below ≡ value / 2 ^ (4 * below)
+div_shifted value below = ap (λ power. value / power) (sixteen_power below)
+
+-- a value of 64 bits has no digits but zeros from the sixteenth on
+pub div_shifted_out : (value below : ℕ) → value < 2 ^ 64 → 16 ≤ below → value / 16 ^ below ≡ 0
+div_shifted_out value below lt le =
+    let power : 16 ^ 16 ≤ 16 ^ below = pow-le-pow_right {n = 16} (omega arith) {i = 16} {j = below} le in
+    div-eq_of_lt {n = value} {m = 16 ^ below} (omega (arith, power))
 
 positive : (value : ℕ) → 0 < value → dec_of value ≡ map (λ d. 48 + d) (digits_of 10 value)
 unfolding dec_of

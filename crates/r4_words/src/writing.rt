@@ -31,16 +31,26 @@ fn digit(value: u64) -> u8
     }
 }
 
+// The hexadecimal digit of a value that has so many others below it.
+#[tactic(auto, using(crate::proofs::Written::div_shifted, crate::proofs::Written::div_shifted_out))]
+fn hex_digit(value: u64, below: u32) -> u8
+    ensures { result ≡ digit_of (value / 16 ^ below % 16) }
+{
+    if below < 16 {
+        digit((value >> (4 * below)) % 16)
+    } else {
+        b'0'
+    }
+}
+
 /// Appends so many low hexadecimal digits of a value, in lower case and the high one first.
-#[tactic(auto, using(crate::proofs::Written::hex_of_none, crate::proofs::Written::hex_of_more, std::proofs::lemmas::Grind::common_steps))]
 pub fn put_hex(value: u64, digits: u32, line: &mut Line)
     requires { array_vec_len line.old + digits ≤ 128 }
     ensures items { line.new.items ≡ line.old.items ++ hex_of digits value }
     ensures len { array_vec_len line.new ≡ array_vec_len line.old + digits }
 {
-    if digits > 0 {
-        put_hex(value / 16, digits - 1, line);
-        line.push(digit(value % 16));
+    for place in 0..digits {
+        line.push(hex_digit(value, digits - 1 - place));
     }
 }
 

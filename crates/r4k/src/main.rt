@@ -1,21 +1,14 @@
 //! The program: the words, the real shelf and sink, the top call, and its status.
 //!
-//! `file_shelf` and `stream_sink` are the trusted edge: they tell nothing of content, and each raises its count at each
-//! failure. `streams` has their loops over readers and writers, and `placing` the way in which a file is put. Everything
-//! else is `r4k_top`: `workstation` does what the words say, and `report_status` tells how it ended.
+//! The shelf and the sink are `host_ports`. Everything else is `r4k_top`: `workstation` does what the words say, and
+//! `report_status` tells how it ended.
 #![tactic(auto)]
 
-mod file_shelf;
-mod placing;
-mod stream_sink;
-mod streams;
-
-use file_shelf::FileShelf;
+use host_ports::{FileShelf, StdSink};
 use r4k_top::{Status, report_status, workstation};
 use std::alloc::{AllocError, Global};
 use std::process::ExitCode;
 use std::{env, io};
-use stream_sink::StdSink;
 
 // The words after the program's name; none where one of them is no UTF-8.
 fn words_of(rt: &HostRuntime, alloc: Global) -> Result<Vec<String>, AllocError> {

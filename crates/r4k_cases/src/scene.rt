@@ -12,7 +12,7 @@ pub struct File {
     pub bytes: Vec<u8>,
 }
 
-/// The files; the numbers of the shelf's calls and of the sink's writes that fail; the room of the sink.
+/// The files; the numbers of the shelf's calls and of the sink's, writes and flushes, that fail; the room of the sink.
 #[derive(Drop)]
 pub struct Scene {
     files: Vec<File>,

@@ -70,11 +70,15 @@ fn put_count(count: u64, kind: &str, out: &mut String) -> Result<(), AllocError>
     Ok(())
 }
 
-// Prints how many fetches, puts and writes failed.
+// Prints how many fetches, puts and calls of the sink failed, and whether what was written has not gone out.
 fn put_counts(seen: &Seen, out: &mut String) -> Result<(), AllocError> {
     put_count(seen.shelf.fetch_fault_count(), "fetches", out)?;
     put_count(seen.shelf.put_fault_count(), "puts", out)?;
-    put_count(seen.sink.fault_count(), "writes", out)
+    put_count(seen.sink.fault_count(), "writes", out)?;
+    if !seen.sink.is_flushed() {
+        out.push_str("| not flushed\n")?;
+    }
+    Ok(())
 }
 
 // Prints a file of the scene, where the shelf now holds other bytes under its name.

@@ -3,12 +3,12 @@
 //! Lines that set the scene: `# TITLE` begins a case, without files and faults; `file NAME WORDS` sets a file to the bytes
 //! of hexadecimal words, `image NAME BASE WORDS` to the image of the words, loaded at the base and entered there, and `text
 //! NAME TEXT` to a text in which a bar ends a line; `length NAME NUMBER BYTE` cuts a file to so many bytes, or fills it up
-//! with the byte; `failing-calls NUMBERS` and `failing-writes NUMBERS` say which calls of the shelf and writes of the sink
-//! fail, counted from 0, and `room NUMBER` how many bytes the sink takes.
+//! with the byte; `failing-calls NUMBERS` and `failing-writes NUMBERS` say which calls of the shelf and of the sink, writes
+//! and flushes, fail, counted from 0, and `room NUMBER` how many bytes the sink takes.
 //!
 //! Command lines, whose WORDS have bars between them: `do WORDS` shows the answer and its number, the calls of the shelf,
-//! the files that are changed or new, how many calls failed, and the text that was written, a line behind each angle and
-//! the rest of one that was not ended behind a tilde. `part WORDS` shows in place of the text how much was written of what
+//! the files that are changed or new, how many calls failed, whether what was written has not gone out, and the text that
+//! was written, a line behind each angle and the rest of one that was not ended behind a tilde. `part WORDS` shows in place of the text how much was written of what
 //! ports that never fail are given, and `lines BEGIN WORDS` the lines that begin so. `sure WORDS` is carried out over ports
 //! that never fail. The answer alone: `answer WORDS`; `steps NUMBER WORDS` of a run, for at most so many ticks, of the
 //! image of hexadecimal words at a0010000; `cut NAME FIRST LAST WORDS` and `spoil NAME FIRST LAST WORDS`, where the file is

@@ -1,5 +1,5 @@
 -- The clauses of the top call, from what its calls ensure.
-use Rattle.std.proofs.Common.{◌≡◌, ℕ, ◌⊎◌, List, [], ◌++◌, append_assoc, Option, Some, None, IsNone, refl, sym, ap, subst, ◌∙◌, inl, inr}
+use Rattle.std.proofs.Common.{◌≡◌, ℕ, Bool, ◌⊎◌, List, [], ◌++◌, append_assoc, Option, Some, None, IsNone, refl, sym, ap, subst, ◌∙◌, inl, inr}
 use Rattle.std.proofs.lemmas.List.{append-nil}
 use Rattle.r4_ports.specs.Told.{Files, Call, Rose, Appended}
 use Rattle.r4k_top.specs.declared.statuses.Status.{Status}
@@ -50,39 +50,39 @@ asked_fewer a b x y p = record {
 all_calls : (a b c : Option (List Call)) (x y : List Call) → Appended a b x → Appended b c y → AskedPrefix a c (x ++ y)
 all_calls a b c x y p q = record { made = x ++ y; rest = []; split = append-nil (x ++ y); told = calls_then a b c x y p q }
 
-calls_of_failure : {S : Type 0} (asked : S → Option (List Call)) (a : Option (List Call)) (b c : S) (x : List Call) (made : Made) (u v : Option (List ℕ)) (m n f h : ℕ) →
-    Appended a (asked b) x → (Rose f h × (c ≡ b)) ⊎ PutAfter made u v (asked b) (asked c) m n → AskedPrefix a (asked c) (x ++ puts_to (file_name made.file))
-calls_of_failure asked a b c x made u v m n f h p (inl stop) = record {
+calls_of_failure : {S : Type 0} (asked : S → Option (List Call)) (a : Option (List Call)) (b c : S) (x : List Call) (made : Made) (u v : Option (List ℕ)) (gone : Bool) (m n f h : ℕ) →
+    Appended a (asked b) x → (Rose f h × (c ≡ b)) ⊎ PutAfter made u v gone (asked b) (asked c) m n → AskedPrefix a (asked c) (x ++ puts_to (file_name made.file))
+calls_of_failure asked a b c x made u v gone m n f h p (inl stop) = record {
   made = x;
   rest = puts_to (file_name made.file);
   split = refl;
   told = subst (λ s. Appended a (asked s) x) (sym stop.1) p;
 }
-calls_of_failure asked a b c x made u v m n f h p (inr put) = all_calls a (asked b) (asked c) x (puts_to (file_name made.file)) p put.calls
+calls_of_failure asked a b c x made u v gone m n f h p (inr put) = all_calls a (asked b) (asked c) x (puts_to (file_name made.file)) p put.calls
 
-calls_of_delivery : {S : Type 0} (asked : S → Option (List Call)) (a : Option (List Call)) (b c : S) (x : List Call) (made : Made) (u v : Option (List ℕ)) (m n f h : ℕ) (answer : Status) →
+calls_of_delivery : {S : Type 0} (asked : S → Option (List Call)) (a : Option (List Call)) (b c : S) (x : List Call) (made : Made) (u v : Option (List ℕ)) (gone : Bool) (m n f h : ℕ) (answer : Status) →
     IsLate answer → Appended a (asked b) x → (answer ≡ Done → Appended (asked b) (asked c) (puts_to (file_name made.file))) →
-    (answer ≡ WriteFault → (Rose f h × (c ≡ b)) ⊎ PutAfter made u v (asked b) (asked c) m n) → AskedPrefix a (asked c) (x ++ puts_to (file_name made.file))
-calls_of_delivery asked a b c x made u v m n f h Done late p done stop = all_calls a (asked b) (asked c) x (puts_to (file_name made.file)) p (done refl)
-calls_of_delivery asked a b c x made u v m n f h Usage late p done stop = absurd late
-calls_of_delivery asked a b c x made u v m n f h ReadFault late p done stop = absurd late
-calls_of_delivery asked a b c x made u v m n f h WriteFault late p done stop = calls_of_failure asked a b c x made u v m n f h p (stop refl)
-calls_of_delivery asked a b c x made u v m n f h (BadImage rule offset) late p done stop = absurd late
-calls_of_delivery asked a b c x made u v m n f h (BadSource line reason) late p done stop = absurd late
-calls_of_delivery asked a b c x made u v m n f h Memory late p done stop = absurd late
-calls_of_delivery asked a b c x made u v m n f h TooLong late p done stop = absurd late
-calls_of_delivery asked a b c x made u v m n f h (Unbuilt tick part) late p done stop = absurd late
+    (answer ≡ WriteFault → (Rose f h × (c ≡ b)) ⊎ PutAfter made u v gone (asked b) (asked c) m n) → AskedPrefix a (asked c) (x ++ puts_to (file_name made.file))
+calls_of_delivery asked a b c x made u v gone m n f h Done late p done stop = all_calls a (asked b) (asked c) x (puts_to (file_name made.file)) p (done refl)
+calls_of_delivery asked a b c x made u v gone m n f h Usage late p done stop = absurd late
+calls_of_delivery asked a b c x made u v gone m n f h ReadFault late p done stop = absurd late
+calls_of_delivery asked a b c x made u v gone m n f h WriteFault late p done stop = calls_of_failure asked a b c x made u v gone m n f h p (stop refl)
+calls_of_delivery asked a b c x made u v gone m n f h (BadImage rule offset) late p done stop = absurd late
+calls_of_delivery asked a b c x made u v gone m n f h (BadSource line reason) late p done stop = absurd late
+calls_of_delivery asked a b c x made u v gone m n f h Memory late p done stop = absurd late
+calls_of_delivery asked a b c x made u v gone m n f h TooLong late p done stop = absurd late
+calls_of_delivery asked a b c x made u v gone m n f h (Unbuilt tick part) late p done stop = absurd late
 
 -- the same, for the words
 pub delivered_calls : {S : Type 0} (said : Option Command) (command : Command) (held : Option Files) (asked : S → Option (List Call)) (a : Option (List Call)) (b c : S)
-    (made : Made) (u v : Option (List ℕ)) (m n f h : ℕ) (answer : Status) →
+    (made : Made) (u v : Option (List ℕ)) (gone : Bool) (m n f h : ℕ) (answer : Status) →
     said ≡ Some command → MadeOf (Some command) held a (asked b) made → IsLate answer →
     (answer ≡ Done → Appended (asked b) (asked c) (puts_to (file_name made.file))) →
-    (answer ≡ WriteFault → (Rose f h × (c ≡ b)) ⊎ PutAfter made u v (asked b) (asked c) m n) → AskedPrefix a (asked c) (calls_of said)
-delivered_calls said command held asked a b c made u v m n f h answer is of late done stop =
+    (answer ≡ WriteFault → (Rose f h × (c ≡ b)) ⊎ PutAfter made u v gone (asked b) (asked c) m n) → AskedPrefix a (asked c) (calls_of said)
+delivered_calls said command held asked a b c made u v gone m n f h answer is of late done stop =
     subst (λ s. AskedPrefix a (asked c) (calls_of s)) (sym is)
     (subst (λ name. AskedPrefix a (asked c) (fetches_of (Some command) ++ puts_to name)) of.named
-    (calls_of_delivery asked a b c (fetches_of (Some command)) made u v m n f h answer late of.calls done stop))
+    (calls_of_delivery asked a b c (fetches_of (Some command)) made u v gone m n f h answer late of.calls done stop))
 
 -- the calls of a command that makes nothing
 pub stopped_calls : (said : Option Command) (command : Command) (held : Option Files) (a b : Option (List Call)) (unread : Type 0) (answer : Status) →

@@ -1,5 +1,5 @@
 -- What the steps of the top call promise each other: a reader of a file, what a command makes, and its delivery.
-use Rattle.std.specs.Prelude.{◌≡◌, ℕ, List, Option, Some, None}
+use Rattle.std.specs.Prelude.{◌≡◌, ℕ, Bool, true, List, Option, Some, None}
 use Rattle.r4_ports.specs.Told.{Files, Call, Appended}
 use Rattle.r4k_top.specs.declared.statuses.Status.{Status}
 use Rattle.r4k_top.specs.declared.statuses.Status.TheVariants as status
@@ -51,9 +51,10 @@ IsLate status.Done = Unit {0}
 IsLate status.WriteFault = Unit {0}
 IsLate answer = ⊥
 
--- the put of what was made failed, after the whole text had been written
-pub record PutAfter (made : Made) (text_before text_now : Option (List ℕ))
+-- the put of what was made failed, after the whole text had been written and had gone out
+pub record PutAfter (made : Made) (text_before text_now : Option (List ℕ)) (is_flushed : Bool)
     (asked_before asked : Option (List Call)) (before now : ℕ) : Type 0 where
   pub text : Appended text_before text_now made.text
+  pub flushed : is_flushed ≡ true
   pub calls : Appended asked_before asked (puts_to (file_name made.file))
   pub rose : PutRose (file_name made.file) before now

@@ -6,7 +6,7 @@
 //! by the definitions of `specs/Command.antt`, `specs/Wanted.antt` and `specs/Outcome.antt`.
 #![tactic(auto)]
 
-ghost use Rattle.std.specs.Prelude.{◌≡◌, ◌⊎◌, IsNone, ◌↔◌};
+ghost use Rattle.std.specs.Prelude.{◌≡◌, ◌⊎◌, true, IsNone, ◌↔◌};
 ghost use Rattle.r4_ports.specs.Told.{Rose, Appended};
 ghost use Rattle.r4k_top.specs.Command.{command_of, out_name};
 ghost use Rattle.r4k_top.specs.Wanted.{fetches_of, calls_of};
@@ -49,10 +49,11 @@ pub fn workstation<F: Shelf, K: Sink>(
         ⊎ PutRose (out_name (command_of words.now)) (F.put_faults shelf.old) (F.put_faults shelf.new))
         (EndsWith (command_of words.now) (F.held shelf.old)) result }
 
-    // Done comes after all that is made was written and put. WriteFault comes after a prefix of the text: a write failed,
-    // and no put was tried; or the put failed, after the whole text.
+    // Done comes after all that is made was written, has gone out, and was put. WriteFault comes after a prefix of the text:
+    // a write or the flush failed, and no put was tried; or the put failed, after the whole text has gone out.
     ensures done { result ≡ Status.Done →
         ComesTo (command_of words.now) (F.held shelf.old) (Written (K.written out.old) (K.written out.new)) }
+    ensures done_flushed { result ≡ Status.Done → K.is_flushed out.new ≡ true }
     ensures done_put { result ≡ Status.Done →
         ComesTo (command_of words.now) (F.held shelf.old) (FilePut (F.held shelf.old) (F.held shelf.new)) }
     ensures written_prefix { result ≡ Status.WriteFault →
@@ -61,7 +62,7 @@ pub fn workstation<F: Shelf, K: Sink>(
         WriteFailed (command_of words.now) (K.faults out.old) (K.faults out.new) (F.asked shelf.old) (F.asked shelf.new)
         (F.held shelf.old) (F.held shelf.new) (F.put_faults shelf.old) (F.put_faults shelf.new)
         ⊎ PutFailed (command_of words.now) (F.held shelf.old) (K.written out.old) (K.written out.new)
-        (F.asked shelf.old) (F.asked shelf.new) (F.put_faults shelf.old) (F.put_faults shelf.new) }
+        (K.is_flushed out.new) (F.asked shelf.old) (F.asked shelf.new) (F.put_faults shelf.old) (F.put_faults shelf.new) }
 
     // Every other answer leaves the sink as it was, Usage the shelf too, and nothing is put then, nor ever under another
     // name than the command's own.

@@ -1,6 +1,6 @@
 //! What a job makes, and its way out: first its text to the sink, then its file to the shelf.
 
-ghost use Rattle.std.specs.Prelude.{◌≡◌, ◌⊎◌, OnOk, OnErr, IsNone};
+ghost use Rattle.std.specs.Prelude.{◌≡◌, ◌⊎◌, true, OnOk, OnErr, IsNone};
 ghost use Rattle.r4_ports.specs.Told.{Appended, AppendedPrefix, HasCause, Rose};
 ghost use Rattle.r4k_top.specs.Wanted.{puts_to};
 ghost use Rattle.r4k_top.specs.Outcome.{file_name};
@@ -12,7 +12,7 @@ use crate::files::ImageFile;
 use crate::statuses::Status;
 use image_listing::write_listing;
 use machine_core::{Machine, write_report};
-use r4_ports::{PutFault, Shelf, Sink, SinkFault};
+use r4_ports::{PutFault, Shelf, Sink, SinkFault, write_all};
 
 /// What a job makes.
 #[derive(Drop)]
@@ -25,16 +25,17 @@ pub enum Product<'a> {
     File { name: &'a str, bytes: Vec<u8> },
 }
 
-// Writes the text.
+// Writes the text, so that it has gone out. The text beside a file is empty, and is flushed as every other.
 fn write_text<K: Sink>(product: &Product<'_>, out: &mut K) -> Result<(), SinkFault>
     ensures ok { OnOk result (Appended (K.written out.old) (K.written out.new) (made_shown product.now).text) }
+    ensures flushed { OnOk result (K.is_flushed out.new ≡ true) }
     ensures err { OnErr result (AppendedPrefix (K.written out.old) (K.written out.new) (made_shown product.now).text) }
     ensures cause { HasCause (K.faults out.old) (K.faults out.new) result }
 {
     match product {
         Product::Report(machine) => write_report(&machine.view(), out),
         Product::Listing(image) => write_listing(&image.image(), out),
-        Product::File { .. } => Ok(()),
+        Product::File { .. } => write_all(b"", out),
     }
 }
 
@@ -59,20 +60,21 @@ pub fn deliver<F: Shelf, K: Sink>(product: &Product<'_>, shelf: &mut F, out: &mu
     ensures late { IsLate result }
     ensures written { result ≡ Status.Done →
         Appended (K.written out.old) (K.written out.new) (made_shown product.now).text }
+    ensures flushed { result ≡ Status.Done → K.is_flushed out.new ≡ true }
     ensures put { result ≡ Status.Done →
         HasPut (F.held shelf.old) (F.held shelf.new) (made_shown product.now).file }
     ensures asked { result ≡ Status.Done → Appended (F.asked shelf.old) (F.asked shelf.new)
         (puts_to (file_name (made_shown product.now).file)) }
 
-    // A failure is that of a write, after a prefix of the text, and then the shelf stays; or that of the put, after the
-    // whole text.
+    // A failure is that of a write or of the flush, after a prefix of the text, and then the shelf stays; or that of the put,
+    // after the whole text has gone out.
     ensures prefix { result ≡ Status.WriteFault →
         AppendedPrefix (K.written out.old) (K.written out.new) (made_shown product.now).text }
     ensures cause { result ≡ Status.WriteFault → Rose (K.faults out.old) (K.faults out.new)
         ⊎ PutRose (file_name (made_shown product.now).file) (F.put_faults shelf.old) (F.put_faults shelf.new) }
     ensures stops { result ≡ Status.WriteFault →
         Rose (K.faults out.old) (K.faults out.new) × (shelf.new ≡ shelf.old)
-        ⊎ PutAfter (made_shown product.now) (K.written out.old) (K.written out.new)
+        ⊎ PutAfter (made_shown product.now) (K.written out.old) (K.written out.new) (K.is_flushed out.new)
         (F.asked shelf.old) (F.asked shelf.new) (F.put_faults shelf.old) (F.put_faults shelf.new) }
 
     // Without a file the shelf stays; with one, its other files do.

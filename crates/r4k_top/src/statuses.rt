@@ -1,6 +1,6 @@
 //! How the program ended.
 
-ghost use Rattle.std.specs.Prelude.{◌≡◌, ◌≤◌, ◌+◌, ◌++◌, length, OnOk, OnErr};
+ghost use Rattle.std.specs.Prelude.{◌≡◌, ◌≢◌, ◌≤◌, ◌+◌, ◌++◌, true, length, OnOk, OnErr};
 ghost use Rattle.arrayvec.specs.ArrayVec.{array_vec_len};
 ghost use Rattle.r4_ports.specs.Told.{Appended, AppendedPrefix, HasCause, Rose};
 ghost use Rattle.r4k_top.specs.StatusText as law;
@@ -171,9 +171,11 @@ fn status_line(status: &Status) -> Line
     }
 }
 
-/// Writes the line of a status: its name, then each field after a blank. Where a write fails, a prefix was written.
+/// Writes the line of a status: its name, then each field after a blank. After Ok it has gone out; where a write fails, a
+/// prefix was written.
 pub fn write_status<K: Sink>(status: &Status, out: &mut K) -> Result<(), SinkFault>
     ensures ok { OnOk result (Appended (K.written out.old) (K.written out.new) (law.status_line status.now)) }
+    ensures flushed { OnOk result (K.is_flushed out.new ≡ true) }
     ensures err { OnErr result (AppendedPrefix (K.written out.old) (K.written out.new) (law.status_line status.now)) }
     ensures cause { HasCause (K.faults out.old) (K.faults out.new) result }
 {
@@ -182,7 +184,7 @@ pub fn write_status<K: Sink>(status: &Status, out: &mut K) -> Result<(), SinkFau
 }
 
 /// What the program does with its answer: nothing is written of Done, and of every other status its line, whatever comes
-/// of that write. The result is the number with which the program ends.
+/// of that write; without a fault the line has gone out. The result is the number with which the program ends.
 pub fn report_status<K: Sink>(status: &Status, complaints: &mut K) -> u8
     ensures number { result ≡ law.number_of status.now }
     ensures silent { status.now ≡ Status.Done → complaints.new ≡ complaints.old }
@@ -190,6 +192,8 @@ pub fn report_status<K: Sink>(status: &Status, complaints: &mut K) -> u8
         (law.complaint_of status.now) }
     ensures whole { ¬ Rose (K.faults complaints.old) (K.faults complaints.new) →
         Appended (K.written complaints.old) (K.written complaints.new) (law.complaint_of status.now) }
+    ensures flushed { status.now ≢ Status.Done → ¬ Rose (K.faults complaints.old) (K.faults complaints.new) →
+        K.is_flushed complaints.new ≡ true }
 {
     match status {
         Status::Done => {}

@@ -1,6 +1,6 @@
 //! The report, written to a sink line by line.
 
-ghost use Rattle.std.specs.Prelude.{◌≡◌, ◌≤◌, length, take, drop, OnOk, OnErr};
+ghost use Rattle.std.specs.Prelude.{◌≡◌, ◌≤◌, true, length, take, drop, OnOk, OnErr};
 ghost use Rattle.r4_ports.specs.Told.{Appended, AppendedPrefix, HasCause};
 ghost use Rattle.r4_ports.specs.Writing.{Writes, stand};
 ghost use Rattle.run_report.specs.Report as law;
@@ -128,10 +128,11 @@ fn write_parts<K: Sink>(view: &View<'_>, out: &mut K, pending: &mut Pending)
     write_console(view.console, out, pending);
 }
 
-/// Writes the report of a state. Where a write fails, a prefix of the report was written.
+/// Writes the report of a state. After Ok it has gone out; where a write fails, a prefix of it was written.
 pub fn write_report<K: Sink>(view: &View<'_>, out: &mut K) -> Result<(), SinkFault>
     requires { view.now.status ≤ 7 }
     ensures ok { OnOk result (Appended (K.written out.old) (K.written out.new) (report_of (shown_by view.now))) }
+    ensures flushed { OnOk result (K.is_flushed out.new ≡ true) }
     ensures err { OnErr result
         (AppendedPrefix (K.written out.old) (K.written out.new) (report_of (shown_by view.now))) }
     ensures cause { HasCause (K.faults out.old) (K.faults out.new) result }

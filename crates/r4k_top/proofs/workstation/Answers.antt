@@ -11,7 +11,7 @@ returns-in_default-clause-asked_up_to g c = λ is. usage_asked _ _ _ (c.in_defau
 
 pub returns-in-Ok-clause-asked : goal.returns-in-Ok-clause-asked
 returns-in-Ok-clause-asked g c =
-    delivered_calls _ _ _ g.F.Shelf.asked _ _ _ _ _ _ _ _ _ _ _ c.in-Some.ensures.some c.in-Ok.ensures.made c.deliver.ensures.late c.deliver.ensures.asked c.deliver.ensures.stops
+    delivered_calls _ _ _ g.F.Shelf.asked _ _ _ _ _ _ _ _ _ _ _ _ c.in-Some.ensures.some c.in-Ok.ensures.made c.deliver.ensures.late c.deliver.ensures.asked c.deliver.ensures.stops
 
 pub returns-in-Err-clause-asked : goal.returns-in-Err-clause-asked
 returns-in-Err-clause-asked g c = stopped_calls _ _ _ _ _ _ _ c.in-Some.ensures.some c.in-Err.ensures.stopped

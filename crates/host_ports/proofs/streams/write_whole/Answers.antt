@@ -1,5 +1,5 @@
-use Rattle.r4k.proofs.KnownBytes.{appended_more}
-use Rattle.r4k.proofs.streams.write_whole.Goals as goal
+use Rattle.host_ports.proofs.KnownBytes.{appended_more}
+use Rattle.host_ports.proofs.streams.write_whole.Goals as goal
 
 -- the bytes that one write took stand behind those before
 pub loop-at-preserved : goal.loop-at-preserved

@@ -1,6 +1,6 @@
 use Rattle.std.proofs.Common.{◌≤◌, ◌-◌, length}
 use Rattle.std.specs.Io.KnownBytes.{Consumes}
-use Rattle.r4k.proofs.streams.read_up_to.Given as goal
+use Rattle.host_ports.proofs.streams.read_up_to.Given as goal
 
 -- the bytes so far were consumed
 abbrev pub invariant-loop-buffer : goal.invariant-loop-buffer

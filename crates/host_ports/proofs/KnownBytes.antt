@@ -1,6 +1,6 @@
 -- What several reads consumed and several writes appended, of bytes that are known.
 use Rattle.std.proofs.Common.{◌≡◌, ◌≤◌, ℕ, List, [], ◌++◌, length, take, drop, ◌+◌, ◌-◌, subst, length-drop, Option, Some, None, IfSome, refl, sym, ap, ◌∙◌, append_assoc, append-nil, arith}
-use Rattle.std.specs.Io.KnownBytes.{Appends, Consumes, IsAtEnd}
+use Rattle.std.specs.Io.KnownBytes.{Appends, Consumes, Keeps, IsAtEnd}
 use Rattle.std.proofs.lemmas.List.{take_all}
 use Rattle.std.proofs.Math.Seq.{take-add, take-append_seam}
 
@@ -49,3 +49,10 @@ appended_more a b c bytes at count within bound before more =
     let fits : count ≤ length (drop at bytes) = subst (λ s. count ≤ length s) behind bound in
     let taken : Appends b c (take count (drop at bytes)) = subst (λ s. Appends b c (take count s)) behind more in
     (omega (arith, left, fits), subst (Appends a c) (sym (take-add at count bytes)) (appends_then a b c (take at bytes) (take count (drop at bytes)) before taken))
+
+-- bytes that were appended, and then kept, are a first part of themselves
+pub appended_kept : (a b c : Option (List ℕ)) (x : List ℕ) → Appends a b x → Keeps b c → (count : ℕ) × Appends a c (take count x)
+appended_kept None b c x p q = (0, tt)
+appended_kept (Some a) None c x p q = absurd p
+appended_kept (Some a) (Some b) None x p q = absurd q
+appended_kept (Some a) (Some b) (Some c) x p q = (length x, q ∙ p ∙ ap (λ s. a ++ s) (sym (take_all (length x) x (omega arith))))

@@ -1,6 +1,6 @@
 use Rattle.std.proofs.Common.{◌≤◌, ◌-◌, length, take}
 use Rattle.std.specs.Io.KnownBytes.{Appends}
-use Rattle.r4k.proofs.streams.write_whole.Given as goal
+use Rattle.host_ports.proofs.streams.write_whole.Given as goal
 
 -- the bytes so far were appended
 abbrev pub invariant-loop-at : goal.invariant-loop-at

@@ -1,6 +1,6 @@
 //! Bytes from a reader and to a writer, which may give and take fewer than they are asked for.
 
-ghost use Rattle.std.specs.Prelude.{◌≡◌, ◌≤◌, length, take, IfOk, IfSome, OnOk};
+ghost use Rattle.std.specs.Prelude.{◌≡◌, ◌≤◌, ℕ, length, take, IfOk, IfSome, OnOk, OnErr};
 ghost use Rattle.std.specs.Io.KnownBytes.{Appends};
 
 use r4_ports::FetchFault;
@@ -30,9 +30,10 @@ pub fn read_up_to<I: Read>(input: &mut I, alloc: Global, cap: usize) -> Result<V
     Ok(bytes)
 }
 
-/// Writes all bytes. It fails at an error, and where a write takes no byte.
+/// Writes all bytes. It fails at an error, and where a write takes no byte; the writer then has a first part of them.
 pub fn write_whole<W: Write>(out: &mut W, bytes: &[u8]) -> io::Result<()>
-    ensures { OnOk result (Appends (W.contents out.old) (W.contents out.new) bytes.now) }
+    ensures ok { OnOk result (Appends (W.contents out.old) (W.contents out.new) bytes.now) }
+    ensures err { OnErr result ((count : ℕ) × Appends (W.contents out.old) (W.contents out.new) (take count bytes.now)) }
 {
     let mut at = 0;
     while at < bytes.len() {

@@ -3,8 +3,9 @@
 
 use crate::streams::write_whole;
 use std::alloc::{AllocError, Global};
-use std::fs::{File, Metadata, OpenFile, OpenOptions, Permissions};
+use std::fs::{Metadata, OpenFile, OpenOptions, Permissions};
 use std::io::{Error, ErrorKind, Write};
+use std::os::unix::fs::{OpenOptionsExt, PermissionsExt};
 use std::rt::Files;
 use std::{fs, io};
 
@@ -19,7 +20,22 @@ fn name_beside(alloc: Global, name: &str, turn: u32) -> Result<String, AllocErro
     }
 }
 
-// Fills a new file, and waits until the system has kept it.
+// Creates a file where nothing stands. Where permissions are given it never has wider ones, so that nobody can open it whom
+// they keep out.
+fn create_new<R: Files>(
+    rt: &R,
+    name: &str,
+    permissions: Option<&Permissions>,
+) -> io::Result<R::File> {
+    let mut options = OpenOptions::new();
+    options.write(true).create_new(true);
+    if let Some(permissions) = permissions {
+        options.mode(permissions.mode() & 0o777);
+    }
+    options.open(rt, name)
+}
+
+// Fills a new file, gives it exactly these permissions where there are any, and waits until the system has kept it.
 fn fill<F: Write + OpenFile>(
     file: &mut F,
     permissions: Option<Permissions>,
@@ -61,7 +77,7 @@ fn replace<R: Files>(
 ) -> io::Result<()> {
     for turn in 0..TURNS {
         let beside = name_beside(alloc, name, turn)?;
-        match File::create_new(rt, beside.as_str()) {
+        match create_new(rt, beside.as_str(), permissions.as_ref()) {
             Ok(file) => return move_filled(rt, file, beside.as_str(), name, permissions, bytes),
             Err(error) => {
                 if error.kind() != ErrorKind::AlreadyExists {
@@ -105,3 +121,6 @@ pub fn place<R: Files>(rt: &R, alloc: Global, name: &str, bytes: &[u8]) -> io::R
         Err(error) => Err(error),
     }
 }
+
+#[cfg(test)]
+mod tests;
