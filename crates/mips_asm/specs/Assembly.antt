@@ -5,11 +5,11 @@
 -- kind, else at the first that has one of the second kind; else its bytes are those of its lines in a row.
 -- Source: the assembler language of this project. What one line says and which bytes its statement puts is defined in
 -- mips_text, specs/Line.antt and specs/Coded.antt.
-use Rattle.std.specs.Prelude.{◌≡◌, ℕ, zero, suc, ◌+◌, ◌<◌, ◌⊎◌, List, [], length, slice_get, Option, Some, None, option_and_then, codes, unwrap_or}
+use Rattle.std.specs.Prelude.{◌≡◌, ℕ, zero, suc, ◌+◌, ◌<◌, ◌⊎◌, List, [], length, slice_get, Option, Some, None, option_and_then, codes, unwrap_or, Ok, Err}
 use Rattle.std.specs.List.{flat_map}
 use Rattle.mips_text.specs.declared.reason.AsmWhy.{AsmWhy}
 use Rattle.mips_text.specs.declared.item.Item.{Item}
-use Rattle.mips_text.specs.Line.{Reading, Read, Refused}
+use Rattle.mips_text.specs.Line.{Reading}
 use Rattle.mips_text.specs.Coded.{Coded, Given, Lacking, coded_of, label_at}
 use Rattle.mips_asm.specs.Layout.{Placed, placed_all, readings_of, base_of, labels_of, layout_fault}
 
@@ -24,8 +24,8 @@ pub data Assembly : Type 0 where
 
 -- what a line says, if it can be read
 abbrev pub item_read : Reading → Option Item
-item_read (Read line) = line.item
-item_read (Refused reason) = None
+item_read (Ok line) = line.item
+item_read (Err reason) = None
 
 -- what a line puts where it stands, with these labels
 abbrev pub coded_line : List (List ℕ × ℕ) → Placed → Coded

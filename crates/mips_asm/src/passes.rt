@@ -124,8 +124,7 @@ pub fn first_pass(alloc: Global, base: u32, source: &[u8]) -> Result<Labels, Asm
 
 /// Appends the bytes of a line at an address.
 fn fill_line(labels: &Labels, at: u64, line: &[u8], bytes: &mut Vec<u8>) -> Result<(), Stop>
-    requires far { at < 2 ^ 63 + 2 ^ 33 }
-    requires short { length line.now ≤ 4294967294 }
+    requires { length line.now ≤ 4294967294 }
     ensures bytes { let line = placed_at at (read_law line.now) in
         IsCoded (coded_line labels.now line) result bytes.old.items bytes.new.items }
 

@@ -5,7 +5,7 @@ ghost use Rattle.std.specs.List.{All};
 ghost use Rattle.mips_text.specs.Forms as forms;
 ghost use Rattle.mips_text.specs.Tokens.{IsWithin};
 ghost use Rattle.mips_text.specs.Line as law;
-ghost use Rattle.mips_asm.specs.Shown.{IsSound, IsSoundLine, reading_shown};
+ghost use Rattle.mips_asm.specs.Shown.{IsSound, IsSoundLine};
 ghost use Rattle.mips_asm.specs.StatementsOf.{IsStatement};
 
 use crate::expected::expected_of;
@@ -49,7 +49,7 @@ fn is_too_long(label: &Option<Name>) -> bool
 /// A line that has no other fault than, maybe, too long a label.
 fn with_label<'a>(label: Option<Name<'a>>, item: Option<Item<'a>>) -> Result<Line<'a>, AsmWhy>
     requires { IfSome item IsSound }
-    ensures reading { reading_shown result ≡ law.with_label label.entry item.entry }
+    ensures reading { result ≡ law.with_label label.entry item.entry }
     ensures sound { IfOk result IsSoundLine }
 {
     let long = is_too_long(&label);
@@ -69,7 +69,7 @@ fn read_operands<'a>(
     requires few { length operands.now < 64 }
     requires row { IsStatement statement }
     requires within { All (IsWithin (length line.now)) operands.now }
-    ensures reading { reading_shown result ≡ law.statement_by_name line.now label.entry (Some statement) operands.now }
+    ensures reading { result ≡ law.statement_by_name line.now label.entry (Some statement) operands.now }
     ensures sound { IfOk result IsSoundLine }
 {
     if let Some(why) = operands_fault(line, statement, operands) {
@@ -90,7 +90,7 @@ fn read_statement<'a>(
 ) -> Result<Line<'a>, AsmWhy>
     requires few { length list.now ≤ 64 }
     requires within { All (IsWithin (length line.now)) list.now }
-    ensures reading { reading_shown result ≡ law.read_statement line.now label.entry list.now }
+    ensures reading { result ≡ law.read_statement line.now label.entry list.now }
     ensures sound { IfOk result IsSoundLine }
 {
     let [name, operands @ ..] = list else {
@@ -120,7 +120,7 @@ fn is_label(line: &[u8], name: &Token, colon: &Token) -> bool
 fn read_tokens<'a>(line: &'a [u8], list: &[Token]) -> Result<Line<'a>, AsmWhy>
     requires few { length list.now ≤ 64 }
     requires within { All (IsWithin (length line.now)) list.now }
-    ensures reading { reading_shown result ≡ law.read_cut line.now None (law.parts_of line.now list.now) }
+    ensures reading { result ≡ law.read_cut line.now None (law.parts_of line.now list.now) }
     ensures sound { IfOk result IsSoundLine }
 {
     let [name, colon, rest @ ..] = list else {
@@ -138,7 +138,7 @@ fn read_tokens<'a>(line: &'a [u8], list: &[Token]) -> Result<Line<'a>, AsmWhy>
 #[tactic(auto, unfolding(mips_text::specs::Line::read_line))]
 pub fn read_line(line: &[u8]) -> Result<Line, AsmWhy>
     requires { length line.now ≤ 4294967294 }
-    ensures reading { reading_shown result ≡ law.read_line line.now }
+    ensures reading { result ≡ law.read_line line.now }
     ensures sound { IfOk result IsSoundLine }
 {
     let mut list = ArrayVec::new();
