@@ -10,6 +10,7 @@ ghost use Rattle.mips_text.specs.Tokens.{IsWithin};
 ghost use Rattle.mips_text.specs.Values.{number_of as number_law};
 ghost use Rattle.mips_text.specs.Line as law;
 ghost use Rattle.mips_asm.specs.Shown.{IsSound, IsSoundBy};
+ghost use Rattle.mips_asm.specs.Reaches.{reach_of as reach_law};
 ghost use Rattle.mips_asm.specs.StatementsOf.{ArePut, IsNarrow, IsNarrowAt, IsOfField, IsStatement};
 
 use crate::matching::text_of;
@@ -267,25 +268,39 @@ fn alignment_of(text: &[u8]) -> Option<u8>
     }
 }
 
+/// What goes to the target among an instruction's operands, if there is one.
+#[derive(Clone, Copy)]
+enum Reach {
+    Nowhere,
+    ByBranch,
+    ByJump,
+}
+
+/// How an instruction with these operands goes to a target.
+fn reach_of(operands: &[Operand]) -> Reach
+    ensures { result ≡ reach_law operands.now }
+{
+    let [operand, more @ ..] = operands else {
+        return Reach::Nowhere;
+    };
+    match operand {
+        Operand::BranchTarget => Reach::ByBranch,
+        Operand::JumpTarget => Reach::ByJump,
+        _ => reach_of(more),
+    }
+}
+
 /// An instruction, which goes to the target where one of its operands is a target.
+#[tactic(auto, using(crate::proofs::Reaches::item_by_reach))]
 fn item_by<'a>(operands: &[Operand], inst: Inst, target: Option<Target<'a>>) -> Option<Item<'a>>
     requires { IsSoundBy operands.now inst }
     ensures value { result ≡ law.item_by operands.now inst target.entry }
     ensures sound { IfSome result IsSound }
 {
-    let [operand, more @ ..] = operands else {
-        return Some(Item::Plain(inst));
-    };
-    match operand {
-        Operand::BranchTarget => match target {
-            Some(target) => Some(Item::BranchTo(inst, target)),
-            None => None,
-        },
-        Operand::JumpTarget => match target {
-            Some(target) => Some(Item::JumpTo(inst, target)),
-            None => None,
-        },
-        _ => item_by(more, inst, target),
+    match reach_of(operands) {
+        Reach::Nowhere => Some(Item::Plain(inst)),
+        Reach::ByBranch => Some(Item::BranchTo(inst, target?)),
+        Reach::ByJump => Some(Item::JumpTo(inst, target?)),
     }
 }
 

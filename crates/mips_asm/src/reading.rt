@@ -87,10 +87,11 @@ fn read_operands<'a>(
     ensures sound { IfOk result IsSoundLine }
 {
     let expected = matched(line, statement, operands)?;
-    match item_of(line, statement, &expected, operands) {
-        Some(item) => with_label(label, Some(item)),
-        None => Err(AsmWhy::Operand),
+    let item = item_of(line, statement, &expected, operands);
+    if item.is_none() {
+        return Err(AsmWhy::Operand);
     }
+    with_label(label, item)
 }
 
 /// A statement, which begins with its name.
