@@ -3,24 +3,31 @@
 ghost use Rattle.std.specs.Prelude.{◌<◌};
 
 use crate::arguments::{put_hexadecimal, word_number_at};
+use crate::listings;
+use crate::scene::Scene;
 use mips3_code::{branch_distance, branch_target, decode, encode, jump_number, jump_target};
 use mips3_table::{Inst, name_of};
-use std::alloc::AllocError;
+use std::alloc::{AllocError, Global};
 
-/// Appends the answer of a verb, and says whether it is one of these.
-pub fn put_answer(verb: &str, arguments: &str, out: &mut String) -> Result<bool, AllocError> {
+/// Appends the answer of a verb.
+pub fn put_answer(
+    alloc: Global,
+    scene: &mut Scene,
+    verb: &str,
+    arguments: &str,
+    out: &mut String,
+) -> Result<(), AllocError> {
     let first = word_number_at(arguments, 0);
     let second = word_number_at(arguments, 1);
     match verb {
-        "decode" => put_decoded(first, out)?,
-        "encode" => put_encoded(first, out)?,
-        "branch_target" => put_hexadecimal(branch_goes(first, second), "?", out)?,
-        "jump_target" => put_hexadecimal(jump_goes(first, second), "?", out)?,
-        "branch_distance" => put_hexadecimal(branch_reach(first, second), "none", out)?,
-        "jump_number" => put_hexadecimal(jump_reach(first, second), "none", out)?,
-        _ => return Ok(false),
+        "decode" => put_decoded(first, out),
+        "encode" => put_encoded(first, out),
+        "branch_target" => put_hexadecimal(branch_goes(first, second), "?", out),
+        "jump_target" => put_hexadecimal(jump_goes(first, second), "?", out),
+        "branch_distance" => put_hexadecimal(branch_reach(first, second), "none", out),
+        "jump_number" => put_hexadecimal(jump_reach(first, second), "none", out),
+        _ => listings::put_answer(alloc, scene, verb, arguments, out),
     }
-    Ok(true)
 }
 
 fn put_inst(inst: &Inst, out: &mut String) -> Result<(), AllocError>

@@ -4,37 +4,53 @@
 use crate::arguments::{
     bytes_of, number_at, number_of, put_bytes, put_decimal, word_at, word_number_at,
 };
+use crate::rows;
 use crate::scene::Scene;
 use elf_image::{Image, ImageRule, load, read_image, write_image};
 use flat_ram::Ram;
 use std::alloc::{AllocError, Global};
 
-/// Appends the answer of a verb, and says whether it is one of these.
+/// Appends the answer of a verb.
 pub fn put_answer(
     alloc: Global,
     scene: &mut Scene,
     verb: &str,
     arguments: &str,
     out: &mut String,
-) -> Result<bool, AllocError> {
+) -> Result<(), AllocError> {
     match verb {
-        "file" => {
-            scene.file = words_of(alloc, arguments)?;
-            put_decimal(Some(scene.file.len() as u64), "?", out)?;
-        }
-        "image_cut" => put_cut(&scene.file, arguments, out)?,
-        "image" => put_changed(alloc, &scene.file, arguments, out)?,
-        "image_load" => {
-            let file = changed(alloc, &scene.file, arguments)?;
-            load_file(&file, &mut scene.ram);
-            put_outcome(&file, out)?;
-        }
-        "image_header" => put_header(&scene.file, out)?,
-        "image_segment" => put_segment(&scene.file, arguments, out)?,
-        "write_image" => put_written(alloc, arguments, out)?,
-        _ => return Ok(false),
+        "file" => put_file(alloc, &mut scene.file, arguments, out),
+        "image_cut" => put_cut(&scene.file, arguments, out),
+        "image" => put_changed(alloc, &scene.file, arguments, out),
+        "image_load" => put_loaded(alloc, scene, arguments, out),
+        "image_header" => put_header(&scene.file, out),
+        "image_segment" => put_segment(&scene.file, arguments, out),
+        "write_image" => put_written(alloc, arguments, out),
+        _ => rows::put_answer(alloc, scene, verb, arguments, out),
     }
-    Ok(true)
+}
+
+// Puts the words of a file in the old ones' place, and appends how many bytes they are.
+fn put_file(
+    alloc: Global,
+    file: &mut Vec<u8>,
+    words: &str,
+    out: &mut String,
+) -> Result<(), AllocError> {
+    *file = words_of(alloc, words)?;
+    put_decimal(Some(file.len() as u64), "?", out)
+}
+
+// Loads the file with other words at some offsets.
+fn put_loaded(
+    alloc: Global,
+    scene: &mut Scene,
+    changes: &str,
+    out: &mut String,
+) -> Result<(), AllocError> {
+    let file = changed(alloc, &scene.file, changes)?;
+    load_file(&file, &mut scene.ram);
+    put_outcome(&file, out)
 }
 
 // The bytes of words in hexadecimal.
@@ -156,12 +172,33 @@ fn put_segment(file: &[u8], arguments: &str, out: &mut String) -> Result<(), All
 
 // Appends the bytes of the image of some bytes, with a base and an entry.
 fn put_written(alloc: Global, arguments: &str, out: &mut String) -> Result<(), AllocError> {
-    let bytes = bytes_of(alloc, word_at(arguments, 2))?;
     match (word_number_at(arguments, 0), word_number_at(arguments, 1)) {
-        (Some(base), Some(entry)) if bytes.len() <= 0x80_0000 => {
-            let image = write_image(alloc, base, entry, &bytes)?;
-            put_bytes(&image, out)
-        }
+        (Some(base), Some(entry)) => put_image_of(alloc, base, entry, word_at(arguments, 2), out),
         _ => out.push_str("?"),
     }
+}
+
+fn put_image_of(
+    alloc: Global,
+    base: u32,
+    entry: u32,
+    word: &str,
+    out: &mut String,
+) -> Result<(), AllocError> {
+    let bytes = bytes_of(alloc, word)?;
+    put_image(alloc, base, entry, &bytes, out)
+}
+
+fn put_image(
+    alloc: Global,
+    base: u32,
+    entry: u32,
+    bytes: &[u8],
+    out: &mut String,
+) -> Result<(), AllocError> {
+    if bytes.len() > 0x80_0000 {
+        return out.push_str("?");
+    }
+    let image = write_image(alloc, base, entry, bytes)?;
+    put_bytes(&image, out)
 }

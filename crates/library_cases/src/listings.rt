@@ -2,26 +2,33 @@
 
 use crate::arguments::put_text;
 use crate::images::image_of;
+use crate::ports;
+use crate::scene::Scene;
 use elf_image::Image;
 use image_listing::write_listing;
 use r4_ports::SureSink;
 use std::alloc::{AllocError, Global};
 
-/// Appends the answer of a verb, and says whether it is one of these.
+/// Appends the answer of a verb.
 pub fn put_answer(
     alloc: Global,
-    file: &[u8],
+    scene: &mut Scene,
     verb: &str,
+    arguments: &str,
     out: &mut String,
-) -> Result<bool, AllocError> {
+) -> Result<(), AllocError> {
     match verb {
-        "listing" => match image_of(file) {
-            Some(image) => put_listing(alloc, &image, out)?,
-            None => out.push_str("?")?,
-        },
-        _ => return Ok(false),
+        "listing" => put_file_listing(alloc, &scene.file, out),
+        _ => ports::put_answer(alloc, scene, verb, arguments, out),
     }
-    Ok(true)
+}
+
+// Appends the listing of the image in a file.
+fn put_file_listing(alloc: Global, file: &[u8], out: &mut String) -> Result<(), AllocError> {
+    match image_of(file) {
+        Some(image) => put_listing(alloc, &image, out),
+        None => out.push_str("?"),
+    }
 }
 
 // Appends the listing of an image.

@@ -6,7 +6,8 @@
 //! is none, or a verb that there is not, is answered by a question mark.
 //!
 //! `arguments` reads the parts of a case, `scene` is what lasts from a case to the next, and `operation_names` has the names
-//! of operations; each other module has the verbs of one library.
+//! of operations. Each other module has the verbs of one library, and its `put_answer` hands a verb that is none of them on
+//! to the next one's, from `words` to `sources`.
 #![tactic(auto)]
 
 mod arguments;
@@ -25,46 +26,58 @@ mod words;
 use scene::Scene;
 use std::alloc::{AllocError, Global};
 use std::io;
-use std::io::{BufRead, BufReader};
 
-// Appends what the call of a verb answers.
-fn put_answer(
+// Plays a case, without what it expects.
+fn play_case(
     alloc: Global,
     scene: &mut Scene,
-    verb: &str,
-    arguments: &str,
+    case: &str,
     out: &mut String,
 ) -> Result<(), AllocError> {
-    let is_known = words::put_answer(verb, arguments, out)?
-        || memory::put_answer(alloc, scene, verb, arguments, out)?
-        || images::put_answer(alloc, scene, verb, arguments, out)?
-        || rows::put_answer(verb, arguments, out)?
-        || coding::put_answer(verb, arguments, out)?
-        || listings::put_answer(alloc, &scene.file, verb, out)?
-        || ports::put_answer(alloc, &mut scene.ports, verb, arguments, out)?
-        || tokens::put_answer(alloc, verb, arguments, out)?
-        || sources::put_answer(alloc, verb, arguments, out)?;
-    if is_known { Ok(()) } else { out.push_str("?") }
+    let (verb, arguments) = case.split_once(' ').unwrap_or((case, ""));
+    write!(out, "{case} = ")?;
+    words::put_answer(alloc, scene, verb, arguments, out)
 }
 
 // Plays a line of the script.
 fn play(alloc: Global, scene: &mut Scene, line: &str, out: &mut String) -> Result<(), AllocError> {
     if line.starts_with("# ") {
-        return writeln!(out, "{line}");
+        out.push_str(line)
+    } else {
+        let (case, _expected) = line.split_once(" = ").unwrap_or((line, ""));
+        play_case(alloc, scene, case, out)
     }
-    let (case, _expected) = line.split_once(" = ").unwrap_or((line, ""));
-    let (verb, arguments) = case.split_once(' ').unwrap_or((case, ""));
-    write!(out, "{case} = ")?;
-    put_answer(alloc, scene, verb, arguments, out)?;
-    out.push_str("\n")
+}
+
+// Plays the lines of a script.
+fn play_all(
+    alloc: Global,
+    scene: &mut Scene,
+    script: &str,
+    out: &mut String,
+) -> Result<(), AllocError> {
+    for line in script.lines() {
+        play(alloc, scene, line, out)?;
+        out.push_str("\n")?;
+    }
+    Ok(())
+}
+
+// Appends what a script comes to.
+fn put_played(alloc: Global, script: &str, out: &mut String) -> Result<(), AllocError> {
+    let mut scene = Scene::new(alloc)?;
+    play_all(alloc, &mut scene, script, out)
+}
+
+// What a script comes to.
+fn played(alloc: Global, script: &str) -> Result<String, AllocError> {
+    let mut out = String::new(alloc);
+    put_played(alloc, script, &mut out)?;
+    Ok(out)
 }
 
 fn main(rt: HostRuntime) -> io::Result<()> {
-    let alloc = rt.alloc();
-    let mut out = String::new(alloc);
-    let mut scene = Scene::new(alloc)?;
-    for line in BufReader::new(alloc, rt.reader())?.lines(alloc) {
-        play(alloc, &mut scene, line?.as_str(), &mut out)?;
-    }
-    rt.print(out)
+    let script = io::read_to_string(rt.alloc(), rt.reader())?;
+    let text = played(rt.alloc(), script.as_str())?;
+    rt.print(text)
 }

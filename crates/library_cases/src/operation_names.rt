@@ -8,10 +8,9 @@ use std::alloc::AllocError;
 /// Appends an operation: its name and its parts, with blanks between them.
 pub fn put_operation(operation: Operation, out: &mut String) -> Result<(), AllocError> {
     out.push_str(name_of_operation(operation))?;
-    for part in parts_of(operation) {
-        put_part(part, out)?;
-    }
-    Ok(())
+    put_part(first_part(operation), out)?;
+    put_part(second_part(operation), out)?;
+    put_part(third_part(operation), out)
 }
 
 fn put_part(part: &str, out: &mut String) -> Result<(), AllocError> {
@@ -74,43 +73,54 @@ fn name_of_other(operation: Operation) -> &'static str {
     }
 }
 
-// The names of an operation's parts; an empty one where there is none.
-fn parts_of(operation: Operation) -> [&'static str; 3] {
+// The name of an operation's first part; an empty one where there is none.
+fn first_part(operation: Operation) -> &'static str {
     match operation {
-        Operation::Jump(link) => [link_name(link), "", ""],
-        Operation::Branch(comparison, slot, link) => {
-            [
-                comparison_name(comparison),
-                slot_name(slot),
-                link_name(link),
-            ]
-        }
-        Operation::Add(width, overflow) | Operation::Subtract(width, overflow) => {
-            [width_name(width), overflow_name(overflow), ""]
-        }
-        Operation::SetWhere(comparison) | Operation::TrapWhere(comparison) => {
-            [comparison_name(comparison), "", ""]
-        }
-        Operation::ShiftLeft(width, amount)
-        | Operation::ShiftRightLogical(width, amount)
-        | Operation::ShiftRightArithmetic(width, amount) => {
-            [width_name(width), amount_name(amount), ""]
-        }
-        Operation::Multiply(width, signedness) | Operation::Divide(width, signedness) => {
-            [width_name(width), signedness_name(signedness), ""]
-        }
-        Operation::Load(size, signedness) => [size_name(size), signedness_name(signedness), ""],
-        Operation::Store(size) => [size_name(size), "", ""],
-        Operation::LoadLeft(width)
+        Operation::Jump(link) => link_name(link),
+        Operation::Branch(comparison, _, _)
+        | Operation::SetWhere(comparison)
+        | Operation::TrapWhere(comparison) => comparison_name(comparison),
+        Operation::Load(size, _) | Operation::Store(size) => size_name(size),
+        Operation::UseCoprocessor(coprocessor) => coprocessor_name(coprocessor),
+        Operation::Add(width, _)
+        | Operation::Subtract(width, _)
+        | Operation::ShiftLeft(width, _)
+        | Operation::ShiftRightLogical(width, _)
+        | Operation::ShiftRightArithmetic(width, _)
+        | Operation::Multiply(width, _)
+        | Operation::Divide(width, _)
+        | Operation::LoadLeft(width)
         | Operation::LoadRight(width)
         | Operation::LoadLinked(width)
         | Operation::StoreLeft(width)
         | Operation::StoreRight(width)
         | Operation::StoreConditional(width)
         | Operation::MoveFromCp0(width)
-        | Operation::MoveToCp0(width) => [width_name(width), "", ""],
-        Operation::UseCoprocessor(coprocessor) => [coprocessor_name(coprocessor), "", ""],
-        _ => ["", "", ""],
+        | Operation::MoveToCp0(width) => width_name(width),
+        _ => "",
+    }
+}
+
+// The name of its second part; an empty one where there is none.
+fn second_part(operation: Operation) -> &'static str {
+    match operation {
+        Operation::Branch(_, slot, _) => slot_name(slot),
+        Operation::Add(_, overflow) | Operation::Subtract(_, overflow) => overflow_name(overflow),
+        Operation::ShiftLeft(_, amount)
+        | Operation::ShiftRightLogical(_, amount)
+        | Operation::ShiftRightArithmetic(_, amount) => amount_name(amount),
+        Operation::Multiply(_, signedness)
+        | Operation::Divide(_, signedness)
+        | Operation::Load(_, signedness) => signedness_name(signedness),
+        _ => "",
+    }
+}
+
+// The name of its third part; an empty one where there is none.
+fn third_part(operation: Operation) -> &'static str {
+    match operation {
+        Operation::Branch(_, _, link) => link_name(link),
+        _ => "",
     }
 }
 

@@ -3,11 +3,14 @@
 //! `NAME:TEXT`. Calls go through the traits, since a generic function is proved from its bounds alone.
 
 use crate::arguments::{number_at, number_of, put_text, text_of, word_at};
+use crate::scene::Scene;
+use crate::tokens;
 use r4_ports::{
     CallKind, FetchFault, MemShelf, MemSink, Pending, PutFault, Shelf, Sink, SinkFault, SureShelf,
     SureSink, finish, write_all, write_text,
 };
 use std::alloc::{AllocError, Global};
+use std::fmt::Display;
 
 /// A shelf and a sink, whose calls fail by a list.
 #[derive(Drop)]
@@ -26,99 +29,139 @@ impl Ports {
     }
 }
 
-/// Appends the answer of a verb, and says whether it is one of these.
+/// Appends the answer of a verb.
 pub fn put_answer(
     alloc: Global,
-    ports: &mut Ports,
+    scene: &mut Scene,
     verb: &str,
     arguments: &str,
     out: &mut String,
-) -> Result<bool, AllocError> {
+) -> Result<(), AllocError> {
     match verb {
-        "shelf" => {
-            ports.shelf = shelf_of(alloc, arguments)?;
-            out.push_str("ready")?;
-        }
-        "sink" => {
-            ports.sink = sink_of(alloc, arguments)?;
-            out.push_str("ready")?;
-        }
-        "message" => put_message(arguments, out)?,
-        _ => {
-            return Ok(
-                put_shelf_answer(alloc, &mut ports.shelf, verb, arguments, out)?
-                    || put_sink_answer(&mut ports.sink, verb, arguments, out)?
-                    || put_sure_answer(alloc, verb, arguments, out)?,
-            );
-        }
+        "shelf" => put_shelf(alloc, &mut scene.ports, arguments, out),
+        "sink" => put_sink(alloc, &mut scene.ports, arguments, out),
+        "message" => put_message(arguments, out),
+        _ => put_shelf_answer(alloc, scene, verb, arguments, out),
     }
-    Ok(true)
+}
+
+// Puts a new shelf in the old one's place.
+fn put_shelf(
+    alloc: Global,
+    ports: &mut Ports,
+    arguments: &str,
+    out: &mut String,
+) -> Result<(), AllocError> {
+    ports.shelf = shelf_of(alloc, arguments)?;
+    out.push_str("ready")
+}
+
+// Puts a new sink in the old one's place.
+fn put_sink(
+    alloc: Global,
+    ports: &mut Ports,
+    arguments: &str,
+    out: &mut String,
+) -> Result<(), AllocError> {
+    ports.sink = sink_of(alloc, arguments)?;
+    out.push_str("ready")
 }
 
 fn put_shelf_answer(
     alloc: Global,
-    shelf: &mut MemShelf,
+    scene: &mut Scene,
     verb: &str,
     arguments: &str,
     out: &mut String,
-) -> Result<bool, AllocError> {
+) -> Result<(), AllocError> {
+    let shelf = &mut scene.ports.shelf;
     match verb {
-        "fetch" => {
-            put_fetched(alloc, shelf, arguments, out)?;
-            write!(out, ", {} failed", shelf.fetch_fault_count())?;
-        }
+        "fetch" => put_fetch(alloc, shelf, arguments, out),
         "fetches" => {
             fetch_often(alloc, shelf, arguments);
-            write!(out, "{} failed", shelf.fetch_fault_count())?;
+            write!(out, "{} failed", shelf.fetch_fault_count())
         }
-        "put" => {
-            out.push_str(outcome(puts(shelf, arguments)))?;
-            write!(out, ", {} failed", shelf.put_fault_count())?;
-        }
-        "held" => put_held(shelf, arguments, out)?,
-        "call" => put_call(shelf, arguments, out)?,
-        _ => return Ok(false),
+        "put" => put_put(shelf, arguments, out),
+        "held" => put_held(shelf, arguments, out),
+        "call" => put_call(shelf, arguments, out),
+        _ => put_sink_answer(alloc, scene, verb, arguments, out),
     }
-    Ok(true)
+}
+
+// Fetches a file, and appends how many fetches have failed.
+fn put_fetch(
+    alloc: Global,
+    shelf: &mut MemShelf,
+    arguments: &str,
+    out: &mut String,
+) -> Result<(), AllocError> {
+    put_fetched(alloc, shelf, arguments, out)?;
+    write!(out, ", {} failed", shelf.fetch_fault_count())
+}
+
+// Puts a file, and appends how many puts have failed.
+fn put_put(shelf: &mut MemShelf, arguments: &str, out: &mut String) -> Result<(), AllocError> {
+    let is_done = puts(shelf, arguments);
+    write!(
+        out,
+        "{}, {} failed",
+        outcome(is_done),
+        shelf.put_fault_count()
+    )
 }
 
 fn put_sink_answer(
-    sink: &mut MemSink,
+    alloc: Global,
+    scene: &mut Scene,
     verb: &str,
     arguments: &str,
     out: &mut String,
-) -> Result<bool, AllocError> {
+) -> Result<(), AllocError> {
+    let sink = &mut scene.ports.sink;
     match verb {
-        "write" => out.push_str(outcome(writes(arguments, sink)))?,
-        "write_parts" => out.push_str(outcome(writes_parts(arguments, sink)))?,
-        _ => return Ok(false),
+        "write" => {
+            let is_done = writes(arguments, sink);
+            put_written(is_done, sink, out)
+        }
+        "write_parts" => {
+            let is_done = writes_parts(arguments, sink);
+            put_written(is_done, sink, out)
+        }
+        _ => put_sure_answer(alloc, scene, verb, arguments, out),
     }
-    out.push_str(", ")?;
+}
+
+// Appends whether a text was written, what stands in the sink, and how many writes have failed.
+fn put_written(is_done: bool, sink: &MemSink, out: &mut String) -> Result<(), AllocError> {
+    write!(out, "{}, ", outcome(is_done))?;
     put_quoted(sink.bytes(), out)?;
-    write!(out, ", {} failed", sink.fault_count())?;
-    Ok(true)
+    write!(out, ", {} failed", sink.fault_count())
 }
 
 // The same calls, of ports that never fail.
 fn put_sure_answer(
     alloc: Global,
+    scene: &mut Scene,
     verb: &str,
     arguments: &str,
     out: &mut String,
-) -> Result<bool, AllocError> {
+) -> Result<(), AllocError> {
     match verb {
-        "sure_fetch" => {
-            let mut shelf = SureShelf::new(files_of(alloc, arguments, 2)?);
-            put_fetched(alloc, &mut shelf, arguments, out)?;
-        }
-        "sure_put" => {
-            let mut shelf = SureShelf::new(files_of(alloc, arguments, 1)?);
-            out.push_str(outcome(puts(&mut shelf, word_at(arguments, 0))))?;
-        }
-        "sure_write" => put_sure_written(alloc, arguments, out)?,
-        _ => return Ok(false),
+        "sure_fetch" => put_sure_fetched(alloc, arguments, out),
+        "sure_put" => put_sure_put(alloc, arguments, out),
+        "sure_write" => put_sure_written(alloc, arguments, out),
+        _ => tokens::put_answer(alloc, scene, verb, arguments, out),
     }
-    Ok(true)
+}
+
+fn put_sure_fetched(alloc: Global, arguments: &str, out: &mut String) -> Result<(), AllocError> {
+    let mut shelf = SureShelf::new(files_of(alloc, arguments, 2)?);
+    put_fetched(alloc, &mut shelf, arguments, out)
+}
+
+fn put_sure_put(alloc: Global, arguments: &str, out: &mut String) -> Result<(), AllocError> {
+    let mut shelf = SureShelf::new(files_of(alloc, arguments, 1)?);
+    out.push_str(outcome(puts(&mut shelf, word_at(arguments, 0))))
 }
 
 // A name with bytes.
@@ -256,24 +299,34 @@ fn writes_parts<K: Sink>(words: &str, out: &mut K) -> bool {
 fn put_sure_written(alloc: Global, arguments: &str, out: &mut String) -> Result<(), AllocError> {
     let room = size_at(arguments, 0);
     let mut sink = SureSink::new(alloc, room)?;
-    let mut size = 0usize;
-    for text in arguments.split(' ').skip(1) {
-        write!(out, "{}, ", outcome(writes(text, &mut sink)))?;
-        size = size.saturating_add(text.len());
-    }
+    let size = put_texts(arguments, &mut sink, out)?;
     if size > room {
         return out.push_str("untold");
     }
     put_quoted(sink.bytes(), out)
 }
 
+// Writes the words from the second on, appends what each write answered, and says how many bytes they are.
+fn put_texts(arguments: &str, sink: &mut SureSink, out: &mut String) -> Result<usize, AllocError> {
+    let mut size = 0usize;
+    for text in arguments.split(' ').skip(1) {
+        write!(out, "{}, ", outcome(writes(text, sink)))?;
+        size = size.saturating_add(text.len());
+    }
+    Ok(size)
+}
+
 // Appends the sentence of a fault.
 fn put_message(fault: &str, out: &mut String) -> Result<(), AllocError> {
     match fault {
-        "FetchFault::Failed" => write!(out, "{}", FetchFault::Failed),
-        "FetchFault::Memory" => write!(out, "{}", FetchFault::Memory),
-        "PutFault::Failed" => write!(out, "{}", PutFault::Failed),
-        "SinkFault::Failed" => write!(out, "{}", SinkFault::Failed),
+        "FetchFault::Failed" => put_shown(&FetchFault::Failed, out),
+        "FetchFault::Memory" => put_shown(&FetchFault::Memory, out),
+        "PutFault::Failed" => put_shown(&PutFault::Failed, out),
+        "SinkFault::Failed" => put_shown(&SinkFault::Failed, out),
         _ => out.push_str("?"),
     }
+}
+
+fn put_shown<T: Display>(shown: &T, out: &mut String) -> Result<(), AllocError> {
+    write!(out, "{shown}")
 }

@@ -1,40 +1,53 @@
 //! The instruction table: the verbs of mips3_table.
 
+ghost use Rattle.std.specs.Prelude.{◌<◌};
+
 use crate::arguments::{put_decimal, quoted, word_number_at};
+use crate::coding;
 use crate::operation_names::put_operation;
+use crate::scene::Scene;
 use mips3_table::{
     Class, Form, class_of, form_of, is_64_bit, name_of, operation_of, row_named, row_of,
 };
-use std::alloc::AllocError;
+use std::alloc::{AllocError, Global};
 
-/// Appends the answer of a verb, and says whether it is one of these.
-pub fn put_answer(verb: &str, arguments: &str, out: &mut String) -> Result<bool, AllocError> {
+/// Appends the answer of a verb.
+pub fn put_answer(
+    alloc: Global,
+    scene: &mut Scene,
+    verb: &str,
+    arguments: &str,
+    out: &mut String,
+) -> Result<(), AllocError> {
     match verb {
-        "row_of" => put_row(arguments, out)?,
-        "row_named" => {
-            let row = row_named(quoted(arguments).as_bytes());
-            put_decimal(row.map(u64::from), "none", out)?;
-        }
-        "class_of" => out.push_str(class_name(arguments))?,
-        "form_of" => out.push_str(form_of_name(arguments))?,
-        "operation_of" => put_operation_of(arguments, out)?,
-        _ => return Ok(false),
+        "row_of" => put_row(word_number_at(arguments, 0), out),
+        "row_named" => put_decimal(named_row(arguments), "none", out),
+        "class_of" => out.push_str(class_name(arguments)),
+        "form_of" => out.push_str(form_of_name(arguments)),
+        "operation_of" => put_operation_of(arguments, out),
+        _ => coding::put_answer(alloc, scene, verb, arguments, out),
     }
-    Ok(true)
+}
+
+fn named_row(arguments: &str) -> Option<u64> {
+    Some(u64::from(row_named(quoted(arguments).as_bytes())?))
 }
 
 // Appends the number of a word's row, its name, and whether it is one of the 64-bit rows.
-fn put_row(arguments: &str, out: &mut String) -> Result<(), AllocError> {
-    let Some(word) = word_number_at(arguments, 0) else {
-        return out.push_str("?");
-    };
-    match row_of(word) {
-        Some(row) => {
-            let width = if is_64_bit(row) { 64 } else { 32 };
-            write!(out, "{row} {} {width}", name_of(row))
-        }
-        None => out.push_str("none"),
+fn put_row(word: Option<u32>, out: &mut String) -> Result<(), AllocError> {
+    match word {
+        Some(word) => match row_of(word) {
+            Some(row) => write!(out, "{row} {} {}", name_of(row), width_of(row)),
+            None => out.push_str("none"),
+        },
+        None => out.push_str("?"),
     }
+}
+
+fn width_of(row: u8) -> u8
+    requires { row < 129 }
+{
+    if is_64_bit(row) { 64 } else { 32 }
 }
 
 fn class_name(arguments: &str) -> &'static str {

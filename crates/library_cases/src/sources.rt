@@ -5,26 +5,32 @@ use crate::tokens::why_name;
 use mips_asm::{AsmFault, Built, assemble};
 use std::alloc::{AllocError, Global};
 
-/// Appends the answer of a verb, and says whether it is one of these.
+/// Appends the answer of a verb, a question mark where there is no such verb.
 pub fn put_answer(
     alloc: Global,
     verb: &str,
     arguments: &str,
     out: &mut String,
-) -> Result<bool, AllocError> {
+) -> Result<(), AllocError> {
     match verb {
-        "assemble" => put_assembled(alloc, arguments, out)?,
-        "assembled_size" => put_size(alloc, arguments, out)?,
-        _ => return Ok(false),
+        "assemble" => put_assembled(alloc, arguments, out),
+        "assembled_size" => put_size(alloc, arguments, out),
+        _ => out.push_str("?"),
     }
-    Ok(true)
 }
 
 fn assembled(alloc: Global, arguments: &str) -> Result<Built, AsmFault> {
     match text_of(alloc, quoted(arguments)) {
-        Ok(source) if source.len() <= 0xffff_fffe => assemble(alloc, &source),
-        _ => Err(AsmFault::Memory),
+        Ok(source) => assembled_of(alloc, &source),
+        Err(_) => Err(AsmFault::Memory),
     }
+}
+
+fn assembled_of(alloc: Global, source: &[u8]) -> Result<Built, AsmFault> {
+    if source.len() > 0xffff_fffe {
+        return Err(AsmFault::Memory);
+    }
+    assemble(alloc, source)
 }
 
 // Appends the base, the entry and the words of an image, or the first bad line and its reason.
@@ -37,7 +43,11 @@ fn put_assembled(alloc: Global, arguments: &str, out: &mut String) -> Result<(),
 
 fn put_built(built: &Built, out: &mut String) -> Result<(), AllocError> {
     write!(out, "{:08x} {:08x}", built.base, built.entry)?;
-    for word in built.bytes.chunks(4) {
+    put_words(&built.bytes, out)
+}
+
+fn put_words(bytes: &[u8], out: &mut String) -> Result<(), AllocError> {
+    for word in bytes.chunks(4) {
         out.push_str(" ")?;
         put_bytes(word, out)?;
     }

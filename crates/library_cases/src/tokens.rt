@@ -3,6 +3,8 @@
 use crate::arguments::{
     bytes_of, put_bytes, put_decimal, put_text, quoted, text_of, word_at, word_number_at,
 };
+use crate::scene::Scene;
+use crate::sources;
 use arrayvec::ArrayVec;
 use mips_text::{
     AsmWhy, Token, TokenKind, cp0_register_of, number_of, print_inst, print_word, push_text,
@@ -12,31 +14,33 @@ use mips3_code::decode;
 use r4_words::Line;
 use std::alloc::{AllocError, Global};
 
-/// Appends the answer of a verb, and says whether it is one of these.
+/// Appends the answer of a verb.
 pub fn put_answer(
     alloc: Global,
+    scene: &mut Scene,
     verb: &str,
     arguments: &str,
     out: &mut String,
-) -> Result<bool, AllocError> {
+) -> Result<(), AllocError> {
     match verb {
-        "print" => put_printed(arguments, out)?,
-        "print_inst" => put_printed_inst(arguments, out)?,
-        "register_of" => {
-            let register = register_of(quoted(arguments).as_bytes());
-            put_decimal(register.map(u64::from), "none", out)?;
-        }
-        "cp0_register_of" => {
-            let register = cp0_register_of(quoted(arguments).as_bytes());
-            put_decimal(register.map(u64::from), "none", out)?;
-        }
-        "number_of" => put_number(arguments, out)?,
-        "tokens" => put_tokens(alloc, arguments, out)?,
-        "token_count" => put_count(alloc, arguments, out)?,
-        "push_text" => put_pushed(alloc, arguments, out)?,
-        _ => return Ok(false),
+        "print" => put_printed(arguments, out),
+        "print_inst" => put_printed_inst(arguments, out),
+        "register_of" => put_decimal(general_register(arguments), "none", out),
+        "cp0_register_of" => put_decimal(cp0_register(arguments), "none", out),
+        "number_of" => put_number(arguments, out),
+        "tokens" => put_tokens(alloc, arguments, out),
+        "token_count" => put_count(alloc, arguments, out),
+        "push_text" => put_pushed(alloc, arguments, out),
+        _ => sources::put_answer(alloc, verb, arguments, out),
     }
-    Ok(true)
+}
+
+fn general_register(arguments: &str) -> Option<u64> {
+    Some(u64::from(register_of(quoted(arguments).as_bytes())?))
+}
+
+fn cp0_register(arguments: &str) -> Option<u64> {
+    Some(u64::from(cp0_register_of(quoted(arguments).as_bytes())?))
 }
 
 /// The name of the reason for which a line is refused.
@@ -100,12 +104,16 @@ fn put_token(line: &[u8], token: &Token, out: &mut String) -> Result<(), AllocEr
 // Appends the tokens of a line with blanks between them, and why it is refused after them.
 fn put_tokens(alloc: Global, arguments: &str, out: &mut String) -> Result<(), AllocError> {
     let line = text_of(alloc, quoted(arguments))?;
+    put_tokens_of(&line, out)
+}
+
+fn put_tokens_of(line: &[u8], out: &mut String) -> Result<(), AllocError> {
     if line.len() > 0xffff_fffe {
         return out.push_str("?");
     }
     let mut cut = ArrayVec::new();
-    let refusal = tokens(&line, &mut cut);
-    put_list(&line, &cut, refusal, out)
+    let refusal = tokens(line, &mut cut);
+    put_list(line, &cut, refusal, out)
 }
 
 fn put_list(
@@ -129,11 +137,15 @@ fn put_list(
 // Appends how many tokens a line has, and why it is refused after them.
 fn put_count(alloc: Global, arguments: &str, out: &mut String) -> Result<(), AllocError> {
     let line = text_of(alloc, quoted(arguments))?;
+    put_count_of(&line, out)
+}
+
+fn put_count_of(line: &[u8], out: &mut String) -> Result<(), AllocError> {
     if line.len() > 0xffff_fffe {
         return out.push_str("?");
     }
     let mut cut = ArrayVec::new();
-    match tokens(&line, &mut cut) {
+    match tokens(line, &mut cut) {
         Some(why) => write!(out, "{} {}", cut.len(), why_name(why)),
         None => write!(out, "{}", cut.len()),
     }
@@ -141,14 +153,17 @@ fn put_count(alloc: Global, arguments: &str, out: &mut String) -> Result<(), All
 
 // Appends how many bytes a text in quotes stands for, and those of the first argument with them behind.
 fn put_pushed(alloc: Global, arguments: &str, out: &mut String) -> Result<(), AllocError> {
-    let text = quoted(arguments).as_bytes();
     let mut bytes = bytes_of(alloc, word_at(arguments, 0))?;
+    push_sized(quoted(arguments).as_bytes(), &mut bytes, out)?;
+    put_bytes(&bytes, out)
+}
+
+fn push_sized(text: &[u8], bytes: &mut Vec<u8>, out: &mut String) -> Result<(), AllocError> {
     match text_size(text) {
         Some(size) => {
-            push_text(text, &mut bytes)?;
-            write!(out, "{size} ")?;
+            push_text(text, bytes)?;
+            write!(out, "{size} ")
         }
-        None => out.push_str("none ")?,
+        None => out.push_str("none "),
     }
-    put_bytes(&bytes, out)
 }

@@ -3,27 +3,31 @@
 use crate::arguments::{
     number_at, number_of, put_decimal, put_hexadecimal, quoted, word_number_at,
 };
+use crate::memory;
+use crate::scene::Scene;
 use r4_words::{
     Line, field, put_dec, put_hex, put_text, read_dec, read_hex, sext16, sext32, value_of_digit,
 };
-use std::alloc::AllocError;
+use std::alloc::{AllocError, Global};
 
-/// Appends the answer of a verb, and says whether it is one of these.
-pub fn put_answer(verb: &str, arguments: &str, out: &mut String) -> Result<bool, AllocError> {
+/// Appends the answer of a verb.
+pub fn put_answer(
+    alloc: Global,
+    scene: &mut Scene,
+    verb: &str,
+    arguments: &str,
+    out: &mut String,
+) -> Result<(), AllocError> {
     match verb {
-        "sext16" => put_hexadecimal(extended_half(arguments), "?", out)?,
-        "sext32" => put_hexadecimal(extended_word(arguments), "?", out)?,
-        "field" => put_hexadecimal(field_of(arguments), "?", out)?,
-        "value_of_digit" => put_decimal(digit_value(arguments), "?", out)?,
-        "read_dec" => {
-            let number = read_dec(quoted(arguments).as_bytes());
-            put_decimal(number.map(u64::from), "none", out)?;
-        }
-        "read_hex" => put_hexadecimal(read_hexadecimal(arguments), "none", out)?,
-        "line" => put_line(arguments, out)?,
-        _ => return Ok(false),
+        "sext16" => put_hexadecimal(extended_half(arguments), "?", out),
+        "sext32" => put_hexadecimal(extended_word(arguments), "?", out),
+        "field" => put_hexadecimal(field_of(arguments), "?", out),
+        "value_of_digit" => put_decimal(digit_value(arguments), "?", out),
+        "read_dec" => put_decimal(read_decimal(arguments), "none", out),
+        "read_hex" => put_hexadecimal(read_hexadecimal(arguments), "none", out),
+        "line" => put_line(arguments, out),
+        _ => memory::put_answer(alloc, scene, verb, arguments, out),
     }
-    Ok(true)
 }
 
 fn extended_half(arguments: &str) -> Option<u64> {
@@ -52,6 +56,10 @@ fn field_of(arguments: &str) -> Option<u64> {
 fn digit_value(arguments: &str) -> Option<u64> {
     let code = quoted(arguments).as_bytes().first()?;
     Some(u64::from(value_of_digit(*code)))
+}
+
+fn read_decimal(arguments: &str) -> Option<u64> {
+    Some(u64::from(read_dec(quoted(arguments).as_bytes())?))
 }
 
 // How many digits, and the text in quotes.

@@ -1,6 +1,7 @@
 -- A word's row is found among the rows of its class alone.
 use Rattle.std.proofs.Common.{◌≡◌, ◌≢◌, ◌==◌, ℕ, ◌+◌, ◌-◌, ◌/◌, ◌%◌, ◌^◌, Bool, true, false, not, ◌&&◌, ◌||◌, List, [], ◌∷◌, ◌++◌, Option, Some, None, length, bit_and, refl, sym, ap, ◌∙◌, ⊎_elim, arith, if◌then◌else◌}
 use Rattle.std.specs.List.{list_all}
+use Rattle.std.specs.Option.{option_or}
 use Rattle.std.proofs.lemmas.Bool.{eqb-true, and_parts, or_cases, cases_Bool, not-true}
 use Rattle.std.proofs.lemmas.Nat.{and_mask, and_shr, and_mod}
 use Rattle.std.proofs.Math.Nat.{mod-mod}
@@ -97,40 +98,35 @@ match_from_other word first class (row ∷ rest) are other =
     ap (λ b. if b then Some first else match_from word (first + 1) rest) (other_matches word class row parts.0 other)
     ∙ match_from_other word (first + 1) class rest parts.1 other
 
--- the first of two answers
-abbrev pub or_else : Option ℕ → Option ℕ → Option ℕ
-or_else (Some number) other = Some number
-or_else None other = other
+pub option_or_none : (answer : Option ℕ) → option_or answer None ≡ answer
+option_or_none (Some number) = refl
+option_or_none None = refl
 
-pub or_else_none : (answer : Option ℕ) → or_else answer None ≡ answer
-or_else_none (Some number) = refl
-or_else_none None = refl
-
-pub match_from_append : (word first : ℕ) (front rest : List Row) → match_from word first (front ++ rest) ≡ or_else (match_from word first front) (match_from word (first + length front) rest)
+pub match_from_append : (word first : ℕ) (front rest : List Row) → match_from word first (front ++ rest) ≡ option_or (match_from word first front) (match_from word (first + length front) rest)
 match_from_append word first [] rest = ap (λ at. match_from word at rest) (omega arith)
 match_from_append word first (row ∷ front) rest =
     ⊎_elim
     (λ here. ap (λ b. if b then Some first else match_from word (first + 1) (front ++ rest)) here
-    ∙ sym (ap (λ b. or_else (if b then Some first else match_from word (first + 1) front) (match_from word (first + length (row ∷ front)) rest)) here))
+    ∙ sym (ap (λ b. option_or (if b then Some first else match_from word (first + 1) front) (match_from word (first + length (row ∷ front)) rest)) here))
     (λ later. ap (λ b. if b then Some first else match_from word (first + 1) (front ++ rest)) later
     ∙ match_from_append word (first + 1) front rest
-    ∙ ap (λ at. or_else (match_from word (first + 1) front) (match_from word at rest)) (omega arith)
-    ∙ sym (ap (λ b. or_else (if b then Some first else match_from word (first + 1) front) (match_from word (first + length (row ∷ front)) rest)) later))
+    ∙ ap (λ at. option_or (match_from word (first + 1) front) (match_from word at rest)) (omega arith)
+    ∙ sym (ap (λ b. option_or (if b then Some first else match_from word (first + 1) front) (match_from word (first + length (row ∷ front)) rest)) later))
     (cases_Bool (matches word row))
 
 -- the first of five answers
 abbrev pub in_turn : Option ℕ → Option ℕ → Option ℕ → Option ℕ → Option ℕ → Option ℕ
-in_turn opcode special regimm cop0_move cop0_function = or_else opcode (or_else special (or_else regimm (or_else cop0_move cop0_function)))
+in_turn opcode special regimm cop0_move cop0_function = option_or opcode (option_or special (option_or regimm (option_or cop0_move cop0_function)))
 
 pub row_of_in_turn : (word : ℕ) → row_of word ≡ in_turn (match_in Opcode word) (match_in Special word) (match_in Regimm word) (match_in Cop0Move word) (match_in Cop0Function word)
 unfolding row_of rows match_in
 row_of_in_turn word =
     match_from_append word 0 opcode_rows (special_rows ++ (regimm_rows ++ (cop0_move_rows ++ cop0_function_rows)))
-    ∙ ap (or_else (match_in Opcode word))
+    ∙ ap (option_or (match_in Opcode word))
     (match_from_append word 54 special_rows (regimm_rows ++ (cop0_move_rows ++ cop0_function_rows))
-    ∙ ap (or_else (match_in Special word))
+    ∙ ap (option_or (match_in Special word))
     (match_from_append word 106 regimm_rows (cop0_move_rows ++ cop0_function_rows)
-    ∙ ap (or_else (match_in Regimm word)) (match_from_append word 120 cop0_move_rows cop0_function_rows)))
+    ∙ ap (option_or (match_in Regimm word)) (match_from_append word 120 cop0_move_rows cop0_function_rows)))
 
 pub no_opcode : (word : ℕ) → class_of word ≢ Opcode → match_in Opcode word ≡ None
 unfolding match_in
@@ -154,16 +150,16 @@ no_cop0_function word other = match_from_other word 124 Cop0Function cop0_functi
 
 -- where all answers but one are None, that one is the first
 pub only_opcode : (o s r m f : Option ℕ) → s ≡ None → r ≡ None → m ≡ None → f ≡ None → in_turn o s r m f ≡ o
-only_opcode o s r m f at_s at_r at_m at_f = rw (at_s, at_r, at_m, at_f) (or_else_none o)
+only_opcode o s r m f at_s at_r at_m at_f = rw (at_s, at_r, at_m, at_f) (option_or_none o)
 
 pub only_special : (o s r m f : Option ℕ) → o ≡ None → r ≡ None → m ≡ None → f ≡ None → in_turn o s r m f ≡ s
-only_special o s r m f at_o at_r at_m at_f = rw (at_o, at_r, at_m, at_f) (or_else_none s)
+only_special o s r m f at_o at_r at_m at_f = rw (at_o, at_r, at_m, at_f) (option_or_none s)
 
 pub only_regimm : (o s r m f : Option ℕ) → o ≡ None → s ≡ None → m ≡ None → f ≡ None → in_turn o s r m f ≡ r
-only_regimm o s r m f at_o at_s at_m at_f = rw (at_o, at_s, at_m, at_f) (or_else_none r)
+only_regimm o s r m f at_o at_s at_m at_f = rw (at_o, at_s, at_m, at_f) (option_or_none r)
 
 pub only_cop0_move : (o s r m f : Option ℕ) → o ≡ None → s ≡ None → r ≡ None → f ≡ None → in_turn o s r m f ≡ m
-only_cop0_move o s r m f at_o at_s at_r at_f = rw (at_o, at_s, at_r, at_f) (or_else_none m)
+only_cop0_move o s r m f at_o at_s at_r at_f = rw (at_o, at_s, at_r, at_f) (option_or_none m)
 
 pub only_cop0_function : (o s r m f : Option ℕ) → o ≡ None → s ≡ None → r ≡ None → m ≡ None → in_turn o s r m f ≡ f
 only_cop0_function o s r m f at_o at_s at_r at_m = rw (at_o, at_s, at_r, at_m) refl

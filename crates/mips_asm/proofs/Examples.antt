@@ -14,8 +14,9 @@ use Rattle.mips3_code.specs.Targets.{branch_target, jump_target}
 use Rattle.mips_text.specs.Line.{operands_fault, item_of, read_statement, read_line}
 use Rattle.mips_text.proofs.Reached.{distance_is, number_is}
 use Rattle.mips_asm.specs.Layout.{base_of, size_at, fault_at, layout_fault}
+use Rattle.mips_text.specs.Least.{least}
 use Rattle.mips_text.specs.Coded.{distance_to, word_number, branch_to, jump_to, loading, bytes_of_words, coded_at}
-use Rattle.mips_asm.specs.Assembly.{Image, Bad, coding_fault, least, assembled}
+use Rattle.mips_asm.specs.Assembly.{Image, Bad, coding_fault, assembled}
 
 a_short_program : assembled (codes ".org 0xa0010000\nlui t0,0xbf00\nori t1,zero,0x41\nsw t1,0(t0)\nsw t1,32(t0)\nnop\n") ≡ Image 0xa0010000 0xa0010000 (bytes_of_words (0x3c08bf00 ∷ 0x34090041 ∷ 0xad090000 ∷ 0xad090020 ∷ 0 ∷ []))
 unfolding assembled base_of read_line read_statement item_of operands_fault size_at fault_at layout_fault coding_fault least coded_at loading branch_to jump_to distance_to word_number tokens_of cut_from start_of register_of register_names cp0_register_of cp0_names statement_named row_named row_at rows number_of bytes_of_text encoded branch_target jump_target zeros_of

@@ -1,10 +1,11 @@
--- The first fault of a list of lines is the one that a search for the least finds.
-use Rattle.std.proofs.Common.{◌≡◌, ◌+◌, ◌<◌, ◌≤◌, ℕ, zero, suc, List, [], ◌∷◌, ◌++◌, Option, Some, None, length, slice_get, refl, ap, ◌∙◌, arith, zero-add, ◌-◌, inl, inr}
+-- The first fault of a list of lines is the one that is found.
+use Rattle.std.proofs.Common.{◌≡◌, ◌+◌, ◌<◌, ◌≤◌, ℕ, zero, suc, List, [], ◌∷◌, ◌++◌, Option, Some, None, option_map, length, slice_get, refl, ap, ◌∙◌, arith, zero-add, ◌-◌, inl, inr}
 use Rattle.std.proofs.lemmas.Bool.{cases_lt}
 use Rattle.std.specs.Option.{option_and_then}
 use Rattle.std.proofs.lemmas.Option.{option_and_then_some, slice_get_within}
 use Rattle.mips_text.specs.declared.reason.AsmWhy.{AsmWhy}
-use Rattle.mips_asm.specs.Assembly.{least, or_at, HasNoFault}
+use Rattle.mips_text.proofs.Least.{least_none, least_first}
+use Rattle.mips_asm.specs.Assembly.{numbered_fault, first_fault, HasNoFault}
 
 -- what stands after the first part of a list
 pub get_after : {X : Type 0} (front : List X) (one : X) (rest : List X) → slice_get (front ++ one ∷ rest) (length front) ≡ Some one
@@ -15,37 +16,17 @@ get_after (first ∷ front) one rest = get_after front one rest
 pub found_within : {X Y : Type 0} (f : X → Option Y) (xs : List X) (n : ℕ) (y : Y) → option_and_then f (slice_get xs n) ≡ Some y → n < length xs
 found_within f xs n y is = option_and_then_some f (slice_get xs n) y is (λ x has holds. slice_get_within xs n x has)
 
--- THE LEAST FAULT
+-- THE FIRST FAULT
 
-least_none_below : (fault : ℕ → Option AsmWhy) (count : ℕ) → ((n : ℕ) → n < count → fault n ≡ None) → least fault count ≡ None
-unfolding least
-least_none_below fault zero none = refl
-least_none_below fault (suc n) none =
-    ap (λ first. or_at first n (fault n)) (least_none_below fault n (λ k lt. none k (omega arith)))
-    ∙ ap (or_at None n) (none n (omega arith))
+-- lines without a fault have no first one
+pub no_first_fault : (fault : ℕ → Option AsmWhy) (count : ℕ) → HasNoFault fault → first_fault fault count ≡ None
+no_first_fault fault count none = least_none (numbered_fault fault) count (λ n lt. ap (option_map (λ reason. (n, reason))) (none n))
 
--- lines without a fault have no least one
-pub least_none : (fault : ℕ → Option AsmWhy) (count : ℕ) → HasNoFault fault → least fault count ≡ None
-least_none fault count none = least_none_below fault count (λ n lt. none n)
-
-least_at : (fault : ℕ → Option AsmWhy) (before : ℕ) (reason : AsmWhy) → fault before ≡ Some reason → ((n : ℕ) → n < before → fault n ≡ None) → least fault (suc before) ≡ Some (before, reason)
-unfolding least
-least_at fault before reason has none =
-    ap (λ first. or_at first before (fault before)) (least_none_below fault before none)
-    ∙ ap (or_at None before) has
-
-least_from : (fault : ℕ → Option AsmWhy) (before more : ℕ) (reason : AsmWhy) → least fault (suc before) ≡ Some (before, reason) → least fault (more + suc before) ≡ Some (before, reason)
-unfolding least
-least_from fault before zero reason is = rw zero-add is
-least_from fault before (suc more) reason is =
-    let next : suc more + suc before ≡ suc (more + suc before) = omega arith in
-    ap (least fault) next ∙ ap (λ first. or_at first (more + suc before) (fault (more + suc before))) (least_from fault before more reason is)
-
--- the least fault is the first one
-pub least_first : (fault : ℕ → Option AsmWhy) (count before : ℕ) (reason : AsmWhy) → before < count → fault before ≡ Some reason → ((n : ℕ) → n < before → fault n ≡ None) → least fault count ≡ Some (before, reason)
-least_first fault count before reason lt has none =
-    let split : count ≡ (count - suc before) + suc before = omega arith in
-    ap (least fault) split ∙ least_from fault before (count - suc before) reason (least_at fault before reason has none)
+-- the fault of a line is the first one where no line before it has any
+pub first_fault_is : (fault : ℕ → Option AsmWhy) (count before : ℕ) (reason : AsmWhy) → before < count → fault before ≡ Some reason → ((n : ℕ) → n < before → fault n ≡ None) → first_fault fault count ≡ Some (before, reason)
+first_fault_is fault count before reason lt has none =
+    least_first (numbered_fault fault) count before (before, reason) lt (ap (option_map (λ why. (before, why))) has)
+    (λ n less. ap (option_map (λ why. (n, why))) (none n less))
 
 -- WITHOUT A FAULT SO FAR
 

@@ -30,15 +30,6 @@ sound_by_form one inst row same fits = is_inst (widths_of one) inst row same fit
 pub sound_by_operands : (row : ℕ) (inst : Inst) → row < 129 → inst.row ≡ row → FitsWidths (widths_at row) inst → IsSoundBy (operands_of (row_at row).form) inst
 sound_by_operands row inst lt same fits = sound_by_form (row_at row).form inst (omega arith) (ap widths_at (sym same)) fits
 
--- by the first operand
-pub sound_branch : (operands : List Operand) (none : Operand) (inst : Inst) → slice_index_or operands 0 none ≡ BranchTarget → 1 ≤ length operands → IsSoundBy operands inst → (number : ℕ) → number < 2 ^ 16 → IsInst (record inst { imm = number })
-sound_branch [] none inst is some sound = absurd (omega arith)
-sound_branch (one ∷ more) none inst is some sound = (subst (λ operand. IsSoundBy (operand ∷ more) inst) is sound).0
-
-pub sound_jump : (operands : List Operand) (none : Operand) (inst : Inst) → slice_index_or operands 0 none ≡ JumpTarget → 1 ≤ length operands → IsSoundBy operands inst → (number : ℕ) → number < 2 ^ 26 → IsInst (record inst { imm = number })
-sound_jump [] none inst is some sound = absurd (omega arith)
-sound_jump (one ∷ more) none inst is some sound = (subst (λ operand. IsSoundBy (operand ∷ more) inst) is sound).0
-
 pub beq_is_sound : IsSoundBy (BranchTarget ∷ []) (bare beq_row)
 unfolding row_at rows
 beq_is_sound = (

@@ -1,12 +1,12 @@
 -- The first pass, a line at a time: what is known of the lines that it has passed.
-use Rattle.std.proofs.Common.{◌≡◌, ◌+◌, ◌<◌, ◌≤◌, ℕ, List, [], ◌∷◌, ◌++◌, Some, None, length, take, slice_get, refl, ap, sym, ◌∙◌, arith, append_assoc, append-nil, length-append, subst}
+use Rattle.std.proofs.Common.{◌≡◌, ◌+◌, ◌<◌, ◌≤◌, ℕ, List, [], ◌∷◌, ◌++◌, Some, None, length, take, slice_get, refl, ap, sym, ◌∙◌, arith, append_assoc, append-nil, length-append, subst, Ok}
 use Rattle.std.specs.Option.{option_and_then}
 use Rattle.std.proofs.Math.Seq.{take-append_seam}
 use Rattle.std.proofs.lemmas.List.Elements.{filter_map-append}
 use Rattle.std.proofs.lemmas.Option.{slice_get_past}
 use Rattle.mips_text.specs.declared.reason.AsmWhy.{AsmWhy}
 use Rattle.mips_text.specs.declared.item.Line.{Line}
-use Rattle.mips_text.specs.Line.{Reading, Read}
+use Rattle.mips_text.specs.Line.{Reading}
 use Rattle.mips_asm.specs.Layout.{Placed, placed_at, placed, size_of, size_read, label_read, labels_of, fault_at, fault_read, layout_fault}
 use Rattle.mips_asm.specs.Assembly.{HasNoFault, IsFirstFault}
 use Rattle.mips_asm.specs.PassesOf.{address_after}
@@ -67,12 +67,12 @@ laid_fault base readings number address labels reading later reason is holds = r
 }
 
 -- after a line that can be read, where the call of the pass came to this
-pub laid_on : (base : ℕ) (readings : List Reading) (number address : ℕ) (labels : List (List ℕ × ℕ)) (reading : Reading) (later : List Reading) (said : Line) (next : ℕ) (more : List (List ℕ × ℕ)) → IsLaidTo base readings number address labels (reading ∷ later) → Read said ≡ reading → fault_at base address labels said ≡ None → next ≡ address + size_of address said.item → more ≡ labels ++ labels_of (placed_at address (Read said) ∷ []) → IsLaidTo base readings (number + 1) next more later
+pub laid_on : (base : ℕ) (readings : List Reading) (number address : ℕ) (labels : List (List ℕ × ℕ)) (reading : Reading) (later : List Reading) (said : Line) (next : ℕ) (more : List (List ℕ × ℕ)) → IsLaidTo base readings number address labels (reading ∷ later) → Ok said ≡ reading → fault_at base address labels said ≡ None → next ≡ address + size_of address said.item → more ≡ labels ++ labels_of (placed_at address (Ok said) ∷ []) → IsLaidTo base readings (number + 1) next more later
 laid_on base readings number address labels reading later said next more is same none size all =
-    let said_is : IsLaidTo base readings number address labels (Read said ∷ later) = subst (λ one. IsLaidTo base readings number address labels (one ∷ later)) (sym same) is in
-    let after : IsLaidTo base readings (number + 1) (address + size_of address said.item) (labels ++ labels_of (placed_at address (Read said) ∷ [])) later = laid_next base readings number address labels (Read said) later said_is none in
+    let said_is : IsLaidTo base readings number address labels (Ok said ∷ later) = subst (λ one. IsLaidTo base readings number address labels (one ∷ later)) (sym same) is in
+    let after : IsLaidTo base readings (number + 1) (address + size_of address said.item) (labels ++ labels_of (placed_at address (Ok said) ∷ [])) later = laid_next base readings number address labels (Ok said) later said_is none in
     subst (λ known. IsLaidTo base readings (number + 1) next known later) (sym all)
-    (subst (λ at. IsLaidTo base readings (number + 1) at (labels ++ labels_of (placed_at address (Read said) ∷ [])) later) (sym size) after)
+    (subst (λ at. IsLaidTo base readings (number + 1) at (labels ++ labels_of (placed_at address (Ok said) ∷ [])) later) (sym size) after)
 
 -- after all lines
 all_passed : (base : ℕ) (readings : List Reading) (number address : ℕ) (labels : List (List ℕ × ℕ)) → (is : IsLaidTo base readings number address labels []) → placed base readings ≡ is.passed

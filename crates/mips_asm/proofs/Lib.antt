@@ -3,6 +3,7 @@ pub mod LabelList
 pub mod Bounds
 pub mod NumberList
 pub mod InstRows
+pub mod Reaches
 pub mod OperandFields
 pub mod LineList
 pub mod Bases

@@ -1,5 +1,5 @@
 -- An `.org` of an address, as a line.
-use Rattle.std.proofs.Common.{◌≡◌, ◌<◌, ◌-◌, ◌^◌, ℕ, List, [], ◌∷◌, ◌++◌, codes, Some, None, option_map, refl, ap, ◌∙◌, subst, arith, append-nil, le-leb, ◌&&◌, nat_le}
+use Rattle.std.proofs.Common.{◌≡◌, ◌<◌, ◌-◌, ◌^◌, ℕ, List, [], ◌∷◌, ◌++◌, codes, Some, None, option_map, refl, ap, ◌∙◌, subst, arith, append-nil, le-leb, ◌&&◌, nat_le, Ok}
 use Rattle.mips_text.specs.declared.token.TokenKind.TheVariants.{Name, Number}
 use Rattle.mips_text.specs.Tokens.{tokens_of}
 use Rattle.mips_text.specs.Values.{hex_text, number_of}
@@ -9,7 +9,7 @@ use Rattle.mips_text.specs.declared.statement.Statement.TheVariants.{Org}
 use Rattle.mips_text.specs.declared.operand.Range.TheVariants.{Unsigned}
 use Rattle.mips_text.specs.Forms.{in_range, bits_in, statement_named}
 use Rattle.mips_text.specs.declared.item.Item.TheVariants.{Origin}
-use Rattle.mips_text.specs.Line.{Read, read_line, read_cut, parts_of, item_of}
+use Rattle.mips_text.specs.Line.{read_line, read_cut, parts_of, item_of}
 use Rattle.mips_text.proofs.Pieces.{Piece, piece, Spells, name_piece, hexadecimal_piece, line_of_more}
 use Rattle.mips_text.proofs.ReadValues.{hexadecimal_read}
 use Rattle.mips_text.proofs.Places.{Place, place, pieces_at, Agrees, Puts, cut_spelled}
@@ -33,7 +33,7 @@ origin_puts line at small (token ∷ next ∷ tokens) spells = absurd spells.2
 origin_puts line at small (token ∷ []) spells = ap (λ t. option_map Origin (bits_in (Unsigned 32) (number_of t))) spells.1 ∙ ap (option_map Origin) (target_back at small)
 
 -- the line of an `.org`
-pub org_is_read : (at : ℕ) → at < 2 ^ 32 → read_line (codes ".org " ++ hex_text at) ≡ Read (record { label = None; item = Some (Origin at) })
+pub org_is_read : (at : ℕ) → at < 2 ^ 32 → read_line (codes ".org " ++ hex_text at) ≡ Ok (record { label = None; item = Some (Origin at) })
 unfolding read_line
 org_is_read at small =
     let line : List ℕ = codes ".org " ++ hex_text at in

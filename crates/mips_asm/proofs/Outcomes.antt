@@ -2,8 +2,8 @@
 use Rattle.std.proofs.Common.{◌≡◌, ◌<◌, ℕ, List, Some, length, ap, sym, ◌∙◌, subst}
 use Rattle.mips_text.specs.declared.reason.AsmWhy.{AsmWhy}
 use Rattle.mips_asm.specs.Layout.{Placed, placed, readings_of, labels_of, layout_fault}
-use Rattle.mips_asm.specs.Assembly.{Image, Bad, HasNoFault, IsFirstFault, least, coding_fault, entry_of, bytes_of_lines, assembled_by_layout, assembled_by_coding, assembled_all, assembled, source_base, source_lines, source_labels, source_bytes, layout_faults, coding_faults}
-use Rattle.mips_asm.proofs.Faults.{found_within, least_first, least_none}
+use Rattle.mips_asm.specs.Assembly.{Image, Bad, HasNoFault, IsFirstFault, first_fault, coding_fault, entry_of, bytes_of_lines, assembled_by_layout, assembled_by_coding, assembled_all, assembled, source_base, source_lines, source_labels, source_bytes, layout_faults, coding_faults}
+use Rattle.mips_asm.proofs.Faults.{found_within, first_fault_is, no_first_fault}
 
 layout_within : (base : ℕ) (lines : List Placed) (n : ℕ) (reason : AsmWhy) → layout_fault base lines n ≡ Some reason → n < length lines
 unfolding layout_fault
@@ -18,27 +18,27 @@ pub refused_by_layout : (source : List ℕ) (number : ℕ) (reason : AsmWhy) →
 unfolding assembled
 refused_by_layout source number reason is =
     ap (assembled_by_layout (source_base source) (source_lines source))
-    (least_first (layout_faults source) (length (source_lines source)) is.before reason (layout_within (source_base source) (source_lines source) is.before reason is.has) is.has is.none_before)
+    (first_fault_is (layout_faults source) (length (source_lines source)) is.before reason (layout_within (source_base source) (source_lines source) is.before reason is.has) is.has is.none_before)
     ∙ ap (λ n. Bad n reason) (sym is.counted)
 
 laid_out : (source : List ℕ) → HasNoFault (layout_faults source) →
-    assembled source ≡ assembled_by_coding (source_base source) (source_labels source) (source_lines source) (least (coding_faults source) (length (source_lines source)))
+    assembled source ≡ assembled_by_coding (source_base source) (source_labels source) (source_lines source) (first_fault (coding_faults source) (length (source_lines source)))
 unfolding assembled
-laid_out source none = ap (assembled_by_layout (source_base source) (source_lines source)) (least_none (layout_faults source) (length (source_lines source)) none)
+laid_out source none = ap (assembled_by_layout (source_base source) (source_lines source)) (no_first_fault (layout_faults source) (length (source_lines source)) none)
 
 -- a source whose first fault is of the second kind
 pub refused_by_coding : (source : List ℕ) (number : ℕ) (reason : AsmWhy) → HasNoFault (layout_faults source) → IsFirstFault (coding_faults source) number reason → assembled source ≡ Bad number reason
 refused_by_coding source number reason none is =
     laid_out source none
     ∙ ap (assembled_by_coding (source_base source) (source_labels source) (source_lines source))
-    (least_first (coding_faults source) (length (source_lines source)) is.before reason (coding_within (source_labels source) (source_lines source) is.before reason is.has) is.has is.none_before)
+    (first_fault_is (coding_faults source) (length (source_lines source)) is.before reason (coding_within (source_labels source) (source_lines source) is.before reason is.has) is.has is.none_before)
     ∙ ap (λ n. Bad n reason) (sym is.counted)
 
 -- lines without a fault
 pub image_of_lines : (base : ℕ) (lines : List Placed) → HasNoFault (layout_fault base lines) → HasNoFault (coding_fault (labels_of lines) lines) → assembled_all base lines ≡ Image base (entry_of base (labels_of lines)) (bytes_of_lines (labels_of lines) lines)
 image_of_lines base lines laid coded =
-    ap (assembled_by_layout base lines) (least_none (layout_fault base lines) (length lines) laid)
-    ∙ ap (assembled_by_coding base (labels_of lines) lines) (least_none (coding_fault (labels_of lines) lines) (length lines) coded)
+    ap (assembled_by_layout base lines) (no_first_fault (layout_fault base lines) (length lines) laid)
+    ∙ ap (assembled_by_coding base (labels_of lines) lines) (no_first_fault (coding_fault (labels_of lines) lines) (length lines) coded)
 
 -- a source without a fault
 pub image_of : (source : List ℕ) → HasNoFault (layout_faults source) → HasNoFault (coding_faults source) → assembled source ≡ Image (source_base source) (entry_of (source_base source) (source_labels source)) (source_bytes source)

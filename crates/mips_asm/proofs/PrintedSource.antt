@@ -1,5 +1,5 @@
 -- A text that is read as a word, after an `.org` of its address, assembles to that word.
-use Rattle.std.proofs.Common.{◌≡◌, ◌<◌, ◌+◌, ◌-◌, ◌%◌, ◌^◌, ◌==◌, ◌&&◌, ◌||◌, ℕ, zero, suc, Bool, true, false, not, List, [], ◌∷◌, ◌++◌, cond, nat_lt, Option, Some, None, IfSome, codes, map, refl, ap, ◌∙◌, arith}
+use Rattle.std.proofs.Common.{◌≡◌, ◌<◌, ◌+◌, ◌-◌, ◌%◌, ◌^◌, ◌==◌, ◌&&◌, ◌||◌, ℕ, zero, suc, Bool, true, false, not, List, [], ◌∷◌, ◌++◌, cond, nat_lt, Option, Some, None, IfSome, codes, map, refl, ap, ◌∙◌, arith, Ok}
 use Rattle.std.proofs.lemmas.Grind.{common_steps}
 use Rattle.flat_ram.specs.Bytes.{bytes_of, zeros_of}
 use Rattle.flat_ram.specs.Map.{ram_size}
@@ -12,7 +12,7 @@ use Rattle.mips_text.specs.declared.reason.AsmWhy.TheVariants as why
 use Rattle.mips_text.specs.declared.item.Item.{Item}
 use Rattle.mips_text.specs.declared.item.Item.TheVariants.{Bytes, Zeros, Origin, Aligned}
 use Rattle.mips_text.specs.declared.item.Line.{Line}
-use Rattle.mips_text.specs.Line.{Read, read_line}
+use Rattle.mips_text.specs.Line.{read_line}
 use Rattle.mips_text.specs.Coded.{Given, coded_at}
 use Rattle.mips_text.specs.Values.{hex_text}
 use Rattle.mips_text.specs.Printed.{text_of, decoded_text, word_text}
@@ -89,7 +89,7 @@ well_placed at _ aligned size = not_false (at % 4 == 0) (is_aligned at aligned)
 -- THE TWO LINES
 
 abbrev two_lines : ℕ → Item → List Placed
-two_lines at item = placed_at at (Read (line_with (Origin at))) ∷ placed_at at (Read (line_with item)) ∷ []
+two_lines at item = placed_at at (Ok (line_with (Origin at))) ∷ placed_at at (Ok (line_with item)) ∷ []
 
 laid : (at : ℕ) (item : Item) → IsPlace at → size_at at item ≡ 4 → HasNoFault (layout_fault at (two_lines at item))
 unfolding layout_fault
@@ -124,25 +124,25 @@ two_assemble at word item is given =
 
 -- THE SOURCE
 
-two_placed : (at : ℕ) (item : Item) → placed at (Read (line_with (Origin at)) ∷ Read (line_with item) ∷ []) ≡ two_lines at item
+two_placed : (at : ℕ) (item : Item) → placed at (Ok (line_with (Origin at)) ∷ Ok (line_with item) ∷ []) ≡ two_lines at item
 unfolding size_at
 two_placed at item =
     let next : at + (at - at) ≡ at = omega arith in
-    ap (λ address. placed_at at (Read (line_with (Origin at))) ∷ placed_at address (Read (line_with item)) ∷ []) next
+    ap (λ address. placed_at at (Ok (line_with (Origin at))) ∷ placed_at address (Ok (line_with item)) ∷ []) next
 
-readings_assemble : (at : ℕ) (item : Item) → assembled_readings (Read (line_with (Origin at)) ∷ Read (line_with item) ∷ []) ≡ assembled_all at (two_lines at item)
+readings_assemble : (at : ℕ) (item : Item) → assembled_readings (Ok (line_with (Origin at)) ∷ Ok (line_with item) ∷ []) ≡ assembled_all at (two_lines at item)
 unfolding base_of
 readings_assemble at item = ap (assembled_all at) (two_placed at item)
 
 below : (at : ℕ) → is_unmapped at ≡ true → at < 2 ^ 32
 below at is = grind (arith, common_steps)
 
-source_readings : (at word : ℕ) (text : List ℕ) → IsPlace at → IsLine text → (reads : ReadsAs text at word) → readings_of (source_at at text) ≡ Read (line_with (Origin at)) ∷ Read (line_with reads.item) ∷ []
+source_readings : (at word : ℕ) (text : List ℕ) → IsPlace at → IsLine text → (reads : ReadsAs text at word) → readings_of (source_at at text) ≡ Ok (line_with (Origin at)) ∷ Ok (line_with reads.item) ∷ []
 source_readings at word text is line reads =
     let org : List ℕ = codes ".org " ++ hex_text at in
     ap (map read_line) (lines_of_first org text (joined (codes ".org ") (hex_text at) refl (hexadecimal_in_line at)) ∙ ap (λ rest. org ∷ rest) (lines_of_only text line.some line.in_one))
     ∙ ap (λ reading. reading ∷ read_line text ∷ []) (org_is_read at (below at is.unmapped))
-    ∙ ap (λ reading. Read (line_with (Origin at)) ∷ reading ∷ []) reads.is_read
+    ∙ ap (λ reading. Ok (line_with (Origin at)) ∷ reading ∷ []) reads.is_read
 
 text_assembles : (at word : ℕ) (text : List ℕ) → IsPlace at → IsLine text → ReadsAs text at word → AssemblesTo text at word
 unfolding assembled

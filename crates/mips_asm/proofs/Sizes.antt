@@ -6,7 +6,7 @@ use Rattle.mips3_table.specs.declared.instruction.Inst.{Inst}
 use Rattle.mips_text.specs.declared.item.Item.{Item}
 use Rattle.mips_text.specs.declared.item.Item.TheVariants.{Plain, BranchTo, JumpTo, LoadNumber, LoadLabel, Words, Bytes, Zeros, Origin, Aligned}
 use Rattle.mips_text.specs.declared.item.Line.{Line}
-use Rattle.mips_text.specs.Line.{Reading, Read, Refused}
+use Rattle.mips_text.specs.Line.{Reading}
 use Rattle.mips_text.specs.Coded.{padding_to, label_at, Coded, Given, Lacking, address_of, where_known, word_with, branch_to, jump_to, distance_to, word_number, loading, bytes_of_words, coded_at, coded_of}
 use Rattle.mips_asm.specs.Layout.{size_at, size_of, size_read, placed_at}
 use Rattle.mips_asm.specs.Assembly.{coded_line}
@@ -68,8 +68,8 @@ given_length labels address item bytes is = sym (subst (λ coded. HasLength code
 
 -- so does a line
 pub line_given : (labels : List (List ℕ × ℕ)) (address : ℕ) (reading : Reading) (bytes : List ℕ) → coded_line labels (placed_at address reading) ≡ Given bytes → length bytes ≡ size_read address reading
-line_given labels address (Read line) bytes is = sym (given_length labels address line.item bytes is)
-line_given labels address (Refused reason) bytes is = subst (λ coded. HasLength coded 0) is refl
+line_given labels address (Ok line) bytes is = sym (given_length labels address line.item bytes is)
+line_given labels address (Err reason) bytes is = subst (λ coded. HasLength coded 0) is refl
 
 -- so many bytes are appended
 appended_size : (labels : List (List ℕ × ℕ)) (address : ℕ) (item : Option Item) (old new : List ℕ) (coded : Coded) → coded_of labels address item ≡ coded → IsAppended coded old new → length new ≡ length old + size_of address item
@@ -81,7 +81,7 @@ coded_size labels address item (Ok done) old new appended = appended_size labels
 coded_size labels address item (Err stop) old new lacking = tt
 
 -- the same of the statement of a line
-pub line_size : (labels : List (List ℕ × ℕ)) (address : ℕ) (reading : Reading) (said : Line) (item : Item) (done : Result (Unit {0}) Stop) (old new : List ℕ) → Read said ≡ reading → said.item ≡ Some item → IsCoded (coded_at labels address item) done old new → OnOk done (length new ≡ length old + size_read address reading)
+pub line_size : (labels : List (List ℕ × ℕ)) (address : ℕ) (reading : Reading) (said : Line) (item : Item) (done : Result (Unit {0}) Stop) (old new : List ℕ) → Ok said ≡ reading → said.item ≡ Some item → IsCoded (coded_at labels address item) done old new → OnOk done (length new ≡ length old + size_read address reading)
 line_size labels address reading said item done old new read is coded =
     subst (λ one. OnOk done (length new ≡ length old + size_read address one)) read
     (coded_size labels address said.item done old new (subst (λ one. IsCoded (coded_of labels address one) done old new) (sym is) coded))

@@ -5,11 +5,12 @@
 -- kind, else at the first that has one of the second kind; else its bytes are those of its lines in a row.
 -- Source: the assembler language of this project. What one line says and which bytes its statement puts is defined in
 -- mips_text, specs/Line.antt and specs/Coded.antt.
-use Rattle.std.specs.Prelude.{◌≡◌, ℕ, zero, suc, ◌+◌, ◌<◌, ◌⊎◌, List, [], length, slice_get, Option, Some, None, option_and_then, codes, unwrap_or}
+use Rattle.std.specs.Prelude.{◌≡◌, ℕ, ◌+◌, ◌<◌, ◌⊎◌, List, [], length, slice_get, Option, Some, None, option_map, option_and_then, codes, unwrap_or, Ok, Err}
 use Rattle.std.specs.List.{flat_map}
 use Rattle.mips_text.specs.declared.reason.AsmWhy.{AsmWhy}
 use Rattle.mips_text.specs.declared.item.Item.{Item}
-use Rattle.mips_text.specs.Line.{Reading, Read, Refused}
+use Rattle.mips_text.specs.Line.{Reading}
+use Rattle.mips_text.specs.Least.{least}
 use Rattle.mips_text.specs.Coded.{Coded, Given, Lacking, coded_of, label_at}
 use Rattle.mips_asm.specs.Layout.{Placed, placed_all, readings_of, base_of, labels_of, layout_fault}
 
@@ -24,8 +25,8 @@ pub data Assembly : Type 0 where
 
 -- what a line says, if it can be read
 abbrev pub item_read : Reading → Option Item
-item_read (Read line) = line.item
-item_read (Refused reason) = None
+item_read (Ok line) = line.item
+item_read (Err reason) = None
 
 -- what a line puts where it stands, with these labels
 abbrev pub coded_line : List (List ℕ × ℕ) → Placed → Coded
@@ -68,16 +69,13 @@ pub record IsFirstFault (fault : ℕ → Option AsmWhy) (number : ℕ) (reason :
   pub has : fault before ≡ Some reason
   pub none_before : (n : ℕ) → n < before → fault n ≡ None
 
--- what was found before, else what is at n
-abbrev pub or_at : {A : Type 0} → Option (ℕ × A) → ℕ → Option A → Option (ℕ × A)
-or_at (Some first) n found = Some first
-or_at None n (Some one) = Some (n, one)
-or_at None n None = None
+-- the fault of a line with the number of lines before it
+abbrev pub numbered_fault : (ℕ → Option AsmWhy) → ℕ → Option (ℕ × AsmWhy)
+numbered_fault fault n = option_map (λ reason. (n, reason)) (fault n)
 
--- the least n below a count at which there is something, and what is there
-unfoldable pub least : {A : Type 0} → (ℕ → Option A) → ℕ → Option (ℕ × A)
-least at zero = None
-least at (suc n) = or_at (least at n) n (at n)
+-- the first fault of so many lines, with the number of lines before it
+abbrev pub first_fault : (ℕ → Option AsmWhy) → ℕ → Option (ℕ × AsmWhy)
+first_fault fault count = least (numbered_fault fault) count
 
 -- THE ASSEMBLY
 
@@ -90,11 +88,11 @@ assembled_by_coding base labels lines None = Image base (entry_of base labels) (
 abbrev pub assembled_by_layout : ℕ → List Placed → Option (ℕ × AsmWhy) → Assembly
 assembled_by_layout base lines (Some bad) = Bad (bad.0 + 1) bad.1
 assembled_by_layout base lines None =
-    assembled_by_coding base (labels_of lines) lines (least (coding_fault (labels_of lines) lines) (length lines))
+    assembled_by_coding base (labels_of lines) lines (first_fault (coding_fault (labels_of lines) lines) (length lines))
 
 -- of all lines of a source
 abbrev pub assembled_all : ℕ → List Placed → Assembly
-assembled_all base lines = assembled_by_layout base lines (least (layout_fault base lines) (length lines))
+assembled_all base lines = assembled_by_layout base lines (first_fault (layout_fault base lines) (length lines))
 
 -- the same of the lines as they are read
 abbrev pub assembled_readings : List Reading → Assembly

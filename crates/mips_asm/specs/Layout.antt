@@ -3,7 +3,7 @@
 -- Source: the assembler language of this project. An image lies in kseg0 and kseg1, which the TLB does not map, and has
 -- at most as many bytes as this machine's RAM (MIPS R4000 Microprocessor User's Manual, 2nd edition, Heinrich,
 -- chapter 4).
-use Rattle.std.specs.Prelude.{ℕ, ◌+◌, ◌-◌, ◌*◌, ◌%◌, ◌^◌, ◌==◌, nat_lt, Bool, true, false, not, ◌&&◌, ◌||◌, if◌then◌else◌, List, [], ◌∷◌, length, take, map, slice_get, Option, Some, None, is_some, option_map, option_and_then, codes, bytes_eq}
+use Rattle.std.specs.Prelude.{ℕ, ◌+◌, ◌-◌, ◌*◌, ◌%◌, ◌^◌, ◌==◌, nat_lt, Bool, true, false, not, ◌&&◌, ◌||◌, if◌then◌else◌, List, [], ◌∷◌, length, take, map, slice_get, Option, Some, None, is_some, option_map, option_and_then, codes, bytes_eq, Ok, Err}
 use Rattle.std.specs.List.{filter_map}
 use Rattle.flat_ram.specs.Map.{ram_size}
 use Rattle.flat_ram.specs.Unmapped.{is_unmapped}
@@ -12,7 +12,7 @@ use Rattle.mips_text.specs.declared.reason.AsmWhy.TheVariants as why
 use Rattle.mips_text.specs.declared.item.Item.{Item}
 use Rattle.mips_text.specs.declared.item.Item.TheVariants.{Plain, BranchTo, JumpTo, LoadNumber, LoadLabel, Words, Bytes, Zeros, Origin, Aligned}
 use Rattle.mips_text.specs.declared.item.Line.{Line}
-use Rattle.mips_text.specs.Line.{Reading, Read, Refused, read_line}
+use Rattle.mips_text.specs.Line.{Reading, read_line}
 use Rattle.mips_text.specs.Coded.{padding_to, label_at}
 
 -- a byte before the lines of what follows it
@@ -51,8 +51,8 @@ base_by_item (Some item) later = if puts_first_byte item then usual_base else la
 
 -- a line that cannot be read is one without bytes here
 abbrev pub base_by : Reading → ℕ → ℕ
-base_by (Read line) later = base_by_item line.item later
-base_by (Refused reason) later = later
+base_by (Ok line) later = base_by_item line.item later
+base_by (Err reason) later = later
 
 -- The base of these lines: the address of the first `.org` before any byte, else the usual one.
 unfoldable pub base_of : List Reading → ℕ
@@ -81,8 +81,8 @@ size_of address (Some item) = size_at address item
 
 -- how many bytes a line puts; one that is refused puts none
 abbrev pub size_read : ℕ → Reading → ℕ
-size_read address (Read line) = size_of address line.item
-size_read address (Refused reason) = 0
+size_read address (Ok line) = size_of address line.item
+size_read address (Err reason) = 0
 
 -- A line of a source, and the address at which it stands.
 pub record Placed : Type 0 where
@@ -107,8 +107,8 @@ placed_all readings = placed (base_of readings) readings
 
 -- the label of a line that stands at an address, if it has one, with that address as a number of 32 bits
 abbrev pub label_read : ℕ → Reading → Option (List ℕ × ℕ)
-label_read address (Read line) = option_map (λ name. (name, address % 2 ^ 32)) line.label
-label_read address (Refused reason) = None
+label_read address (Ok line) = option_map (λ name. (name, address % 2 ^ 32)) line.label
+label_read address (Err reason) = None
 
 -- The labels of lines in their order, each with its line's address.
 abbrev pub labels_of : List Placed → List (List ℕ × ℕ)
@@ -168,8 +168,8 @@ fault_at base address labels line =
 
 -- the same of a line as it is read; one that can not be read is refused for that reason
 abbrev pub fault_read : ℕ → ℕ → List (List ℕ × ℕ) → Reading → Option AsmWhy
-fault_read base address labels (Refused reason) = Some reason
-fault_read base address labels (Read line) = fault_at base address labels line
+fault_read base address labels (Err reason) = Some reason
+fault_read base address labels (Ok line) = fault_at base address labels line
 
 -- The first reason for which the line that has n lines before it is refused where it stands, by the labels of those
 -- lines. None where there is no such reason, or no such line.

@@ -5,3 +5,4 @@ pub mod Shown
 pub mod LabelsOf
 pub mod PassesOf
 pub mod StatementsOf
+pub mod Reaches

@@ -1,8 +1,8 @@
 -- What the calls of the two passes come to.
-use Rattle.std.specs.Prelude.{◌≡◌, ℕ, ◌+◌, ◌++◌, List, [], ◌∷◌, Option, Some}
+use Rattle.std.specs.Prelude.{◌≡◌, ℕ, ◌+◌, ◌++◌, List, [], ◌∷◌, Option, Some, Ok}
 use Rattle.mips_text.specs.declared.reason.AsmWhy.{AsmWhy}
 use Rattle.mips_text.specs.declared.item.Line.{Line}
-use Rattle.mips_text.specs.Line.{Reading, Read}
+use Rattle.mips_text.specs.Line.{Reading}
 use Rattle.mips_asm.specs.declared.coding.Stop.{Stop}
 use Rattle.mips_asm.specs.declared.coding.Stop.TheVariants.{Lacks, Memory}
 use Rattle.mips_asm.specs.declared.built.AsmFault.{AsmFault}
@@ -17,7 +17,7 @@ address_after address (reading ∷ readings) = address_after (address + size_rea
 
 -- the labels after a line that can be read and stands at this address
 abbrev pub labels_after : List (List ℕ × ℕ) → ℕ → Line → List (List ℕ × ℕ)
-labels_after labels address line = labels ++ labels_of (placed_at address (Read line) ∷ [])
+labels_after labels address line = labels ++ labels_of (placed_at address (Ok line) ∷ [])
 
 -- a line has this fault; want of memory says nothing of it
 abbrev pub IsStopped : Option AsmWhy → Stop → Type 0

@@ -12,18 +12,12 @@ use Rattle.mips_asm.specs.declared.coding.Stop.TheVariants as stop
 use Rattle.mips_text.specs.declared.item.Item.{Item}
 use Rattle.mips_text.specs.declared.item.Item.TheVariants.{Plain, BranchTo, JumpTo, LoadNumber, LoadLabel, Aligned}
 use Rattle.mips_text.specs.declared.item.Line.{Line}
-use Rattle.mips_text.specs.Line.{Reading, Read, Refused}
 use Rattle.mips_text.specs.Coded.{Coded, Given, Lacking}
 
 -- the word of a branch or a jump, where it reaches its target
 abbrev pub word_shown : Option ℕ → Coded
 word_shown (Some word) = Given (bytes_of word)
 word_shown None = Lacking why.Range
-
--- the reading of a line
-abbrev pub reading_shown : Result Line AsmWhy → Reading
-reading_shown (Ok line) = Read line
-reading_shown (Err reason) = Refused reason
 
 -- an item can be coded: its instruction is one of the table, with any number of its width where it has a target; its
 -- register is one; its alignment is one

@@ -4,14 +4,15 @@ ghost use Rattle.std.specs.Prelude.{◌≡◌, ◌<◌, ◌≤◌, ◌+◌, [], 
 ghost use Rattle.std.specs.List.{All};
 ghost use Rattle.arrayvec.specs.ArrayVec.{array_vec_len};
 ghost use Rattle.mips3_table.specs.Instructions.{FitsWidths, widths_at};
+ghost use Rattle.mips3_table.specs.Rows.{row_at};
 ghost use Rattle.mips_text.specs.Forms as forms;
 ghost use Rattle.mips_text.specs.Tokens.{IsWithin};
 ghost use Rattle.mips_text.specs.Values.{number_of as number_law};
 ghost use Rattle.mips_text.specs.Line as law;
 ghost use Rattle.mips_asm.specs.Shown.{IsSound, IsSoundBy};
+ghost use Rattle.mips_asm.specs.Reaches.{reach_of as reach_law};
 ghost use Rattle.mips_asm.specs.StatementsOf.{ArePut, IsNarrow, IsNarrowAt, IsOfField, IsStatement};
 
-use crate::expected::expected_of;
 use crate::matching::text_of;
 use crate::ranges::bits_in;
 use arrayvec::ArrayVec;
@@ -117,17 +118,6 @@ pub fn bare(row: u8) -> Inst
         sa: 0,
         imm: 0,
     }
-}
-
-/// The instruction of a row with the operands of a statement.
-fn inst_of(line: &[u8], row: u8, statement: Statement, operands: &[Token]) -> Option<Inst>
-    requires few { length operands.now < 64 }
-    requires statement { IsStatement statement }
-    requires within { All (IsWithin (length line.now)) operands.now }
-    ensures { result ≡ law.inst_of line.now row statement operands.now }
-{
-    let expected = expected_of(statement, operands.len());
-    with_operands(line, &expected, operands, bare(row))
 }
 
 /// The text of the token at an index.
@@ -278,41 +268,59 @@ fn alignment_of(text: &[u8]) -> Option<u8>
     }
 }
 
+/// What goes to the target among an instruction's operands, if there is one.
+#[derive(Clone, Copy)]
+enum Reach {
+    Nowhere,
+    ByBranch,
+    ByJump,
+}
+
+/// How an instruction with these operands goes to a target.
+fn reach_of(operands: &[Operand]) -> Reach
+    ensures { result ≡ reach_law operands.now }
+{
+    let [operand, more @ ..] = operands else {
+        return Reach::Nowhere;
+    };
+    match operand {
+        Operand::BranchTarget => Reach::ByBranch,
+        Operand::JumpTarget => Reach::ByJump,
+        _ => reach_of(more),
+    }
+}
+
 /// An instruction, which goes to the target where one of its operands is a target.
+#[tactic(auto, using(crate::proofs::Reaches::item_by_reach))]
 fn item_by<'a>(operands: &[Operand], inst: Inst, target: Option<Target<'a>>) -> Option<Item<'a>>
     requires { IsSoundBy operands.now inst }
     ensures value { result ≡ law.item_by operands.now inst target.entry }
     ensures sound { IfSome result IsSound }
 {
-    let [operand, more @ ..] = operands else {
-        return Some(Item::Plain(inst));
-    };
-    match operand {
-        Operand::BranchTarget => match target {
-            Some(target) => Some(Item::BranchTo(inst, target)),
-            None => None,
-        },
-        Operand::JumpTarget => match target {
-            Some(target) => Some(Item::JumpTo(inst, target)),
-            None => None,
-        },
-        _ => item_by(more, inst, target),
+    match reach_of(operands) {
+        Reach::Nowhere => Some(Item::Plain(inst)),
+        Reach::ByBranch => Some(Item::BranchTo(inst, target?)),
+        Reach::ByJump => Some(Item::JumpTo(inst, target?)),
     }
 }
 
 /// The instruction of a row with its operands.
 #[tactic(auto, using(crate::proofs::OperandFields::sound_of_row))]
-fn item_of_row<'a>(line: &'a [u8], row: u8, operands: &[Token]) -> Option<Item<'a>>
-    requires few { length operands.now < 64 }
+fn item_of_row<'a>(
+    line: &'a [u8],
+    row: u8,
+    expected: &[Expected],
+    operands: &[Token],
+) -> Option<Item<'a>>
     requires row { row < 129 }
     requires within { All (IsWithin (length line.now)) operands.now }
+    requires expected { expected.now ≡ forms.separated (forms.operands_of (row_at row).form) }
+    requires narrow { All IsNarrowAt expected.now }
     ensures value { result ≡ law.item_of_row line.now row operands.now }
     ensures sound { IfSome result IsSound }
 {
-    let statement = Statement::Instruction(row);
-    let expected = expected_of(statement, operands.len());
-    let target = target_in(line, &expected, operands);
-    match inst_of(line, row, statement, operands) {
+    let target = target_in(line, expected, operands);
+    match with_operands(line, expected, operands, bare(row)) {
         Some(inst) => item_by(operands_of(form_of(row)), inst, target),
         None => None,
     }
@@ -351,20 +359,27 @@ fn word_of_nop() -> Words
     Words::new(words)
 }
 
-/// What a statement puts, by its operands.
+/// What a statement puts, by its operands and the tokens that it expects.
 #[tactic(auto, using(crate::proofs::OperandFields::sound_of_move), unfolding(mips_text::specs::Line::item_of))]
-pub fn item_of<'a>(line: &'a [u8], statement: Statement, operands: &[Token]) -> Option<Item<'a>>
+pub fn item_of<'a>(
+    line: &'a [u8],
+    statement: Statement,
+    expected: &[Expected],
+    operands: &[Token],
+) -> Option<Item<'a>>
     requires few { length operands.now < 64 }
     requires row { IsStatement statement }
     requires within { All (IsWithin (length line.now)) operands.now }
+    requires expected { expected.now ≡ law.tokens_expected (forms.shape_of statement) (length operands.now) }
+    requires narrow { All IsNarrowAt expected.now }
     ensures value { result ≡ law.item_of line.now statement operands.now }
     ensures sound { IfSome result IsSound }
 {
     match statement {
-        Statement::Instruction(row) => item_of_row(line, row, operands),
+        Statement::Instruction(row) => item_of_row(line, row, expected, operands),
         Statement::Li => number_loading(line, operands),
         Statement::La => label_loading(line, operands),
-        Statement::Move => Some(Item::Plain(inst_of(line, OR, statement, operands)?)),
+        Statement::Move => Some(Item::Plain(with_operands(line, expected, operands, bare(OR))?)),
         Statement::Nop => Some(Item::Words(word_of_nop())),
         Statement::Branch => item_by(
             &[Operand::BranchTarget],

@@ -13,7 +13,7 @@ use crate::built::{AsmFault, Built};
 use crate::coding::{Stop, put_item};
 use crate::labels::Labels;
 use crate::layout::{USUAL_BASE, fault_at, puts_first_byte, size_of};
-use crate::reading::read_line;
+use crate::reading::{Tokens, read_line};
 use crate::sources::split_line;
 use mips_text::{Item, Line};
 use std::alloc::Global;
@@ -33,11 +33,11 @@ fn decided_base(item: &Item) -> Option<u32>
 }
 
 /// The base that a line decides, if it does. One that cannot be read decides nothing.
-fn base_of_line(line: &[u8]) -> Option<u32>
+fn base_of_line(line: &[u8], list: &mut Tokens) -> Option<u32>
     requires { length line.now ≤ 4294967294 }
     ensures { (later : ℕ) → unwrap_or result later ≡ layout.base_by (read_law line.now) later }
 {
-    match read_line(line) {
+    match read_line(line, list) {
         Ok(
             Line {
                 item: Some(item),
@@ -54,10 +54,11 @@ pub fn base_of(source: &[u8]) -> u32
     requires { length source.now ≤ 4294967294 }
     ensures { result ≡ layout.base_of (readings_of source.now) }
 {
+    let mut list = Tokens::new();
     let mut rest = source;
     while !rest.is_empty() {
         let split = split_line(rest);
-        if let Some(base) = base_of_line(split.line) {
+        if let Some(base) = base_of_line(split.line, &mut list) {
             return base;
         }
         rest = split.rest;
@@ -102,12 +103,13 @@ pub fn first_pass(alloc: Global, base: u32, source: &[u8]) -> Result<Labels, Asm
     ensures fault { IfErr result (IsFaultOf (layout_fault base (placed base (readings_of source.now)))) }
 {
     let mut labels = Labels::new(alloc);
+    let mut list = Tokens::new();
     let mut address = u64::from(base);
     let mut number = 1;
     let mut rest = source;
     while !rest.is_empty() {
         let split = split_line(rest);
-        let line = match read_line(split.line) {
+        let line = match read_line(split.line, &mut list) {
             Ok(line) => line,
             Err(why) => return Err(AsmFault::Bad { line: number, why }),
         };
@@ -123,9 +125,14 @@ pub fn first_pass(alloc: Global, base: u32, source: &[u8]) -> Result<Labels, Asm
 }
 
 /// Appends the bytes of a line at an address.
-fn fill_line(labels: &Labels, at: u64, line: &[u8], bytes: &mut Vec<u8>) -> Result<(), Stop>
-    requires far { at < 2 ^ 63 + 2 ^ 33 }
-    requires short { length line.now ≤ 4294967294 }
+fn fill_line(
+    labels: &Labels,
+    at: u64,
+    line: &[u8],
+    list: &mut Tokens,
+    bytes: &mut Vec<u8>,
+) -> Result<(), Stop>
+    requires { length line.now ≤ 4294967294 }
     ensures bytes { let line = placed_at at (read_law line.now) in
         IsCoded (coded_line labels.now line) result bytes.old.items bytes.new.items }
 
@@ -133,7 +140,7 @@ fn fill_line(labels: &Labels, at: u64, line: &[u8], bytes: &mut Vec<u8>) -> Resu
     ensures size { let size = layout.size_read at (read_law line.now) in
         OnOk result (length bytes.new.items ≡ length bytes.old.items + size) }
 {
-    match read_line(line) {
+    match read_line(line, list) {
         Ok(
             Line {
                 item: Some(item),
@@ -153,12 +160,13 @@ fn fill(base: u32, labels: &Labels, source: &[u8], bytes: &mut Vec<u8>) -> Resul
     ensures size { OnOk result (base + length bytes.new.items ≡ address_after base (readings_of source.now)) }
     ensures fault { IfErr result (IsFaultOf (coding_fault labels.now (placed base (readings_of source.now)))) }
 {
+    let mut list = Tokens::new();
     let mut number = 1;
     let mut rest = source;
     while !rest.is_empty() {
         let split = split_line(rest);
         let at = u64::from(base) + bytes.len() as u64;
-        match fill_line(labels, at, split.line, bytes) {
+        match fill_line(labels, at, split.line, &mut list, bytes) {
             Ok(()) => {}
             Err(Stop::Lacks(why)) => return Err(AsmFault::Bad { line: number, why }),
             Err(Stop::Memory) => return Err(AsmFault::Memory),

@@ -1,11 +1,21 @@
 //! Numbers that lie in a range, as bits.
 
-ghost use Rattle.std.specs.Prelude.{◌≡◌, ◌<◌, ◌≤◌, ◌^◌, IfSome};
+ghost use Rattle.std.specs.Prelude.{◌≡◌, ◌<◌, ◌≤◌, ◌^◌, pos, IfSome};
 ghost use Rattle.mips_text.specs.Forms as forms;
 ghost use Rattle.mips_text.specs.Values as values;
 ghost use Rattle.mips_asm.specs.StatementsOf.{IsNarrow, low_bits_of};
 
 use mips_text::{Range, number_of};
+
+/// So large a power of two.
+fn power(width: u8) -> i64
+    requires { width ≤ 32 }
+    ensures value { result ≡ pos (2 ^ width) }
+    ensures some { 0 < 2 ^ width }
+    ensures most { 2 ^ width ≤ 2 ^ 32 }
+{
+    1i64 << width
+}
 
 /// Whether a number lies in a range.
 fn contains(range: Range, number: i64) -> bool
@@ -13,13 +23,13 @@ fn contains(range: Range, number: i64) -> bool
     ensures { result ≡ forms.in_range range number }
 {
     match range {
-        Range::Unsigned(width) => 0 <= number && number <= (1i64 << width) - 1,
+        Range::Unsigned(width) => 0 <= number && number <= power(width) - 1,
         Range::WithSign(width) => {
-            let half = 1i64 << (width - 1);
+            let half = power(width - 1);
             -half <= number && number <= half - 1
         }
         Range::EitherSign(width) => {
-            -(1i64 << (width - 1)) <= number && number <= (1i64 << width) - 1
+            -power(width - 1) <= number && number <= power(width) - 1
         }
     }
 }
@@ -39,7 +49,7 @@ fn low_bits(width: u8, number: i64) -> u32
     requires { width ≤ 32 }
     ensures { result ≡ low_bits_of width number }
 {
-    number.rem_euclid(1i64 << width) as u32
+    number.rem_euclid(power(width)) as u32
 }
 
 /// The bits of a number that lies in a range, a negative one in two's complement.

@@ -2,38 +2,52 @@
 
 ghost use Rattle.std.specs.Prelude.{◌≡◌, ◌<◌, ◌≤◌, ◌&&◌, length, Some, None, IfOk, IfSome};
 ghost use Rattle.std.specs.List.{All};
+ghost use Rattle.std.specs.Result.{result_err};
 ghost use Rattle.mips_text.specs.Forms as forms;
 ghost use Rattle.mips_text.specs.Tokens.{IsWithin};
 ghost use Rattle.mips_text.specs.Line as law;
-ghost use Rattle.mips_asm.specs.Shown.{IsSound, IsSoundLine, reading_shown};
-ghost use Rattle.mips_asm.specs.StatementsOf.{IsStatement};
+ghost use Rattle.mips_asm.specs.Shown.{IsSound, IsSoundLine};
+ghost use Rattle.mips_asm.specs.StatementsOf.{IsNarrowAt, IsStatement};
 
-use crate::expected::expected_of;
+use crate::expected::{ExpectedTokens, expected_of};
 use crate::matching::{all_agree, all_in_range, some_unknown, text_of};
 use crate::operands::item_of;
 use crate::statements::statement_named;
 use arrayvec::ArrayVec;
 use mips_text::{AsmWhy, Item, Line, Name, Statement, Token, TokenKind, tokens};
 
-/// The first reason for which these tokens are not the operands of a statement.
+/// The tokens of a line.
+pub type Tokens = ArrayVec<Token, 64>;
+
+/// The tokens that a statement expects, or the first reason for which these are not such.
 #[tactic(auto, unfolding(mips_text::specs::Line::operands_fault))]
-fn operands_fault(line: &[u8], statement: Statement, operands: &[Token]) -> Option<AsmWhy>
+fn matched(
+    line: &[u8],
+    statement: Statement,
+    operands: &[Token],
+) -> Result<ExpectedTokens, AsmWhy>
     requires few { length operands.now < 64 }
     requires row { IsStatement statement }
     requires within { All (IsWithin (length line.now)) operands.now }
-    ensures { result ≡ law.operands_fault line.now (forms.shape_of statement) operands.now }
+    ensures fault { result_err result ≡ law.operands_fault line.now (forms.shape_of statement) operands.now }
+    ensures expected { IfOk result (λ expected. expected.items ≡ law.tokens_expected (forms.shape_of statement) (length operands.now)) }
+    ensures narrow { IfOk result (λ expected. All IsNarrowAt expected.items) }
 {
     let expected = expected_of(statement, operands.len());
     let unknown = some_unknown(line, &expected, operands);
     if unknown {
-        return Some(AsmWhy::Unknown);
+        return Err(AsmWhy::Unknown);
     }
     let agree = all_agree(line, &expected, operands);
     if !agree {
-        return Some(AsmWhy::Operand);
+        return Err(AsmWhy::Operand);
     }
     let fit = all_in_range(line, &expected, operands);
-    if fit { None } else { Some(AsmWhy::Range) }
+    if fit {
+        Ok(expected)
+    } else {
+        Err(AsmWhy::Range)
+    }
 }
 
 /// Whether a label has more than 64 characters.
@@ -49,7 +63,7 @@ fn is_too_long(label: &Option<Name>) -> bool
 /// A line that has no other fault than, maybe, too long a label.
 fn with_label<'a>(label: Option<Name<'a>>, item: Option<Item<'a>>) -> Result<Line<'a>, AsmWhy>
     requires { IfSome item IsSound }
-    ensures reading { reading_shown result ≡ law.with_label label.entry item.entry }
+    ensures reading { result ≡ law.with_label label.entry item.entry }
     ensures sound { IfOk result IsSoundLine }
 {
     let long = is_too_long(&label);
@@ -69,16 +83,15 @@ fn read_operands<'a>(
     requires few { length operands.now < 64 }
     requires row { IsStatement statement }
     requires within { All (IsWithin (length line.now)) operands.now }
-    ensures reading { reading_shown result ≡ law.statement_by_name line.now label.entry (Some statement) operands.now }
+    ensures reading { result ≡ law.statement_by_name line.now label.entry (Some statement) operands.now }
     ensures sound { IfOk result IsSoundLine }
 {
-    if let Some(why) = operands_fault(line, statement, operands) {
-        return Err(why);
+    let expected = matched(line, statement, operands)?;
+    let item = item_of(line, statement, &expected, operands);
+    if item.is_none() {
+        return Err(AsmWhy::Operand);
     }
-    match item_of(line, statement, operands) {
-        Some(item) => with_label(label, Some(item)),
-        None => Err(AsmWhy::Operand),
-    }
+    with_label(label, item)
 }
 
 /// A statement, which begins with its name.
@@ -90,7 +103,7 @@ fn read_statement<'a>(
 ) -> Result<Line<'a>, AsmWhy>
     requires few { length list.now ≤ 64 }
     requires within { All (IsWithin (length line.now)) list.now }
-    ensures reading { reading_shown result ≡ law.read_statement line.now label.entry list.now }
+    ensures reading { result ≡ law.read_statement line.now label.entry list.now }
     ensures sound { IfOk result IsSoundLine }
 {
     let [name, operands @ ..] = list else {
@@ -120,7 +133,7 @@ fn is_label(line: &[u8], name: &Token, colon: &Token) -> bool
 fn read_tokens<'a>(line: &'a [u8], list: &[Token]) -> Result<Line<'a>, AsmWhy>
     requires few { length list.now ≤ 64 }
     requires within { All (IsWithin (length line.now)) list.now }
-    ensures reading { reading_shown result ≡ law.read_cut line.now None (law.parts_of line.now list.now) }
+    ensures reading { result ≡ law.read_cut line.now None (law.parts_of line.now list.now) }
     ensures sound { IfOk result IsSoundLine }
 {
     let [name, colon, rest @ ..] = list else {
@@ -134,16 +147,16 @@ fn read_tokens<'a>(line: &'a [u8], list: &[Token]) -> Result<Line<'a>, AsmWhy>
     }
 }
 
-/// What a line says, or the first reason for which it says nothing.
+/// What a line says, or the first reason for which it says nothing. Its tokens are put into a list in the place of others.
 #[tactic(auto, unfolding(mips_text::specs::Line::read_line))]
-pub fn read_line(line: &[u8]) -> Result<Line, AsmWhy>
+pub fn read_line<'a>(line: &'a [u8], list: &mut Tokens) -> Result<Line<'a>, AsmWhy>
     requires { length line.now ≤ 4294967294 }
-    ensures reading { reading_shown result ≡ law.read_line line.now }
+    ensures reading { result ≡ law.read_line line.now }
     ensures sound { IfOk result IsSoundLine }
 {
-    let mut list = ArrayVec::new();
-    if let Some(why) = tokens(line, &mut list) {
+    list.clear();
+    if let Some(why) = tokens(line, list) {
         return Err(why);
     }
-    read_tokens(line, &list)
+    read_tokens(line, list)
 }

@@ -13,6 +13,7 @@ pub mod OperandPlaces
 pub mod OperandValues
 pub mod FormOperands
 pub mod Registers
+pub mod Least
 pub mod Reached
 pub mod ReadBack
 pub mod ReadReserved

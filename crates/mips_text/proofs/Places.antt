@@ -1,6 +1,6 @@
 -- What stands at each place of a statement after its name: the token that is expected there beside the one that the
 -- line has. What is read from such a line depends on the kinds and the texts of its tokens alone.
-use Rattle.std.proofs.Common.{◌≡◌, ℕ, suc, Bool, true, false, not, ◌&&◌, ◌||◌, if◌then◌else◌, List, [], ◌∷◌, length, Option, Some, None, option_and_then, refl, ap, sym, ◌∙◌}
+use Rattle.std.proofs.Common.{◌≡◌, ℕ, suc, Bool, true, false, not, ◌&&◌, ◌||◌, if◌then◌else◌, List, [], ◌∷◌, length, Option, Some, None, option_and_then, refl, ap, sym, ◌∙◌, Ok, Err}
 use Rattle.mips3_table.specs.declared.instruction.Inst.{Inst}
 use Rattle.mips3_table.specs.Rows.{row_at}
 use Rattle.mips_text.specs.declared.reason.AsmWhy.TheVariants as why
@@ -13,7 +13,7 @@ use Rattle.mips_text.specs.declared.statement.Statement.TheVariants.{Instruction
 use Rattle.mips_text.specs.Forms.{Shape, operands_of, shape_of, separated, statement_named, token_text, names_no_register, has_kind, has_range}
 use Rattle.mips_text.specs.declared.item.Target.{Target}
 use Rattle.mips_text.specs.declared.item.Item.{Item}
-use Rattle.mips_text.specs.Line.{Parts, Reading, Read, Refused, tokens_expected, some_unknown, all_agree, all_in_range, operands_fault, with_operand, with_operands, bare, target_or, target_in, item_by, item_of, is_colon, is_name, parts_of, with_item, statement_by_fault, statement_by_name, read_statement, read_cut}
+use Rattle.mips_text.specs.Line.{Parts, Reading, tokens_expected, some_unknown, all_agree, all_in_range, operands_fault, with_operand, with_operands, bare, target_or, target_in, item_by, item_of, is_colon, is_name, parts_of, with_item, statement_by_fault, statement_by_name, read_statement, read_cut}
 use Rattle.mips_text.proofs.Pieces.{Piece, piece, Spells}
 
 -- a place of a statement: what is expected there, and the token that stands there
@@ -139,7 +139,7 @@ item_of_spelled line row places tokens spells expected =
 
 -- a line that says this alone
 abbrev pub says : Item → Reading
-says item = Read (record { label = None; item = Some item })
+says item = Ok (record { label = None; item = Some item })
 
 -- what a statement puts, whatever tokens spell its places
 abbrev pub Puts : List ℕ → Statement → List Place → Item → Type 0
@@ -150,7 +150,7 @@ statement_spelled : (line name : List ℕ) (statement : Statement) (places : Lis
 unfolding read_statement
 statement_spelled line name statement places item [] spells named expected agree puts = absurd spells
 statement_spelled line name statement places item (token ∷ tokens) spells named expected agree puts =
-    ap (λ k. if is_name k then statement_by_name line None (statement_named (token_text line token)) tokens else Refused why.Operand) spells.0
+    ap (λ k. if is_name k then statement_by_name line None (statement_named (token_text line token)) tokens else Err why.Operand) spells.0
     ∙ ap (λ t. statement_by_name line None (statement_named t) tokens) spells.1
     ∙ ap (λ s. statement_by_name line None s tokens) named
     ∙ ap (statement_by_fault line None statement tokens) (no_fault line (shape_of statement) places tokens spells.2 expected agree)

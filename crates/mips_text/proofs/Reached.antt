@@ -4,45 +4,23 @@ use Rattle.std.proofs.lemmas.Bool.{both_ways}
 use Rattle.std.proofs.lemmas.Grind.{common_steps}
 use Rattle.mips3_code.specs.Targets.{branch_target, jump_target, IsBranchDistance, IsJumpNumber}
 use Rattle.mips3_code.proofs.Reach.{words_between, word_within, one_branch_distance, one_jump_number, branch_misses, jump_misses}
-use Rattle.mips_text.specs.Names.{or_else}
-use Rattle.mips_text.specs.Coded.{first_below, distance_to, word_number}
+use Rattle.mips_text.specs.Least.{least}
+use Rattle.mips_text.specs.Coded.{passing, distance_to, word_number}
+use Rattle.mips_text.proofs.Least.{least_none, least_first}
 
-pub none_below : (limit : ℕ) (test : ℕ → Bool) → ((n : ℕ) → n < limit → test n ≡ false) → first_below limit test ≡ None
-unfolding first_below
-none_below zero test fails = refl
-none_below (suc n) test fails =
-    ap (λ first. or_else first (if test n then Some n else None)) (none_below n test (λ m lt. fails m (omega arith)))
-    ∙ ap (λ b. let none : Option ℕ = None in or_else none (if b then Some n else None)) (fails n (omega arith))
-
--- a number that passes goes on being the first one
-first_stays : (n : ℕ) (test : ℕ → Bool) (one : ℕ) → first_below n test ≡ Some one → first_below (suc n) test ≡ Some one
-unfolding first_below
-first_stays n test one is = ap (λ first. or_else first (if test n then Some n else None)) is
-
--- one that passes is the first where none passes before it
-first_here : (n : ℕ) (test : ℕ → Bool) (one : ℕ) → one ≡ n → test n ≡ true → ((m : ℕ) → m < n → test m ≡ false) → first_below (suc n) test ≡ Some one
-unfolding first_below
-first_here n test one same passes fails =
-    ap (λ first. or_else first (if test n then Some n else None)) (none_below n test fails)
-    ∙ ap (λ b. let none : Option ℕ = None in or_else none (if b then Some n else None)) passes ∙ ap Some (sym same)
+-- where no number below a limit passes, none is found
+none_below : (limit : ℕ) (test : ℕ → Bool) → ((n : ℕ) → n < limit → test n ≡ false) → least (passing test) limit ≡ None
+none_below limit test fails = least_none (passing test) limit (λ n lt. ap (λ b. if b then Some n else None) (fails n lt))
 
 other_fails : (test : ℕ → Bool) (m one : ℕ) (b : Bool) → test m ≡ b → (test m ≡ true → m ≡ one) → m < one → test m ≡ false
 other_fails test m one true is only lt = absurd (let same : m ≡ one = only is in omega arith)
 other_fails test m one false is only lt = is
 
-only_step : (n : ℕ) (test : ℕ → Bool) (one : ℕ) (here : Bool) → (one == n) ≡ here → one < suc n → test one ≡ true → ((m : ℕ) → m < suc n → test m ≡ true → m ≡ one) → (one < n → first_below n test ≡ Some one) →
-    first_below (suc n) test ≡ Some one
-only_step n test one true is lt passes only earlier =
-    let same : one ≡ n = eqb-true one n is in
-    first_here n test one same (ap test (sym same) ∙ passes) (λ m below. other_fails test m one (test m) refl (only m (omega arith)) (omega arith))
-only_step n test one false is lt passes only earlier =
-    first_stays n test one (earlier (let other : one ≡ n → false ≡ true = (λ same. sym is ∙ eq-eqb one n same) in grind (arith, common_steps)))
-
--- the only number that passes is the first one
-pub only_below : (limit : ℕ) (test : ℕ → Bool) (one : ℕ) → one < limit → test one ≡ true → ((n : ℕ) → n < limit → test n ≡ true → n ≡ one) → first_below limit test ≡ Some one
-only_below zero test one lt passes only = absurd (omega arith)
-only_below (suc n) test one lt passes only =
-    only_step n test one (one == n) refl lt passes only (λ below. only_below n test one below passes (λ m less holds. only m (omega arith) holds))
+-- the only number that passes is the one that is found
+only_below : (limit : ℕ) (test : ℕ → Bool) (one : ℕ) → one < limit → test one ≡ true → ((n : ℕ) → n < limit → test n ≡ true → n ≡ one) → least (passing test) limit ≡ Some one
+only_below limit test one lt passes only =
+    least_first (passing test) limit one one lt (ap (λ b. if b then Some one else None) passes)
+    (λ n less. ap (λ b. if b then Some n else None) (other_fails test n one (test n) refl (only n (omega arith)) less))
 
 pub distance_found : (at target distance : ℕ) → IsBranchDistance at target distance → distance_to at target ≡ Some distance
 unfolding distance_to

@@ -1,8 +1,9 @@
 -- What a name stands for is one of 32 registers.
 use Rattle.std.proofs.Common.{◌≡◌, ◌<◌, ℕ, Bool, true, false, List, [], length, Option, Some, None, nat_lt, bytes_eq, codes, drop, slice_index, ◌==◌, if◌then◌else◌, refl, subst, arith, ltb-true}
 use Rattle.std.specs.List.{position}
+use Rattle.std.specs.Option.{option_or}
 use Rattle.std.proofs.lemmas.List.Quantifiers.{position-Some}
-use Rattle.mips_text.specs.Names.{register_names, register_of, cp0_names, cp0_register_of, below_32, numbered, or_else}
+use Rattle.mips_text.specs.Names.{register_names, register_of, cp0_names, cp0_register_of, below_32, numbered}
 use Rattle.mips_text.proofs.Naming.{register_count, cp0_count}
 use Rattle.r4_words.specs.Texts.{read_dec}
 
@@ -18,7 +19,7 @@ numbered_by : (b : Bool) (found : Option ℕ) (register : ℕ) → (if b then be
 numbered_by true found register is = below_by found register is
 numbered_by false found register is = absurd (cc)
 
-either_below : (named other : Option ℕ) (register : ℕ) → ((r : ℕ) → named ≡ Some r → r < 32) → ((r : ℕ) → other ≡ Some r → r < 32) → or_else named other ≡ Some register → register < 32
+either_below : (named other : Option ℕ) (register : ℕ) → ((r : ℕ) → named ≡ Some r → r < 32) → ((r : ℕ) → other ≡ Some r → r < 32) → option_or named other ≡ Some register → register < 32
 either_below (Some r) other register one two is = one register is
 either_below None other register one two is = two register is
 
@@ -35,7 +36,7 @@ fp_or false found register small is = small register is
 pub register_below : (text : List ℕ) (register : ℕ) → register_of text ≡ Some register → register < 32
 unfolding register_of
 register_below text register is =
-    fp_or (bytes_eq text (codes "fp")) (or_else (position (bytes_eq text) register_names) (numbered 36 text)) register
+    fp_or (bytes_eq text (codes "fp")) (option_or (position (bytes_eq text) register_names) (numbered 36 text)) register
     (λ r found. either_below (position (bytes_eq text) register_names) (numbered 36 text) r (λ q. listed_below register_names text q register_count)
     (λ q. numbered_by (slice_index text 0 == 36) (read_dec (drop 1 text)) q) found)
     is

@@ -8,7 +8,7 @@ use Rattle.mips3_code.specs.Coding.{encoded}
 use Rattle.mips_text.specs.declared.reason.AsmWhy.{AsmWhy}
 use Rattle.mips_text.specs.declared.reason.AsmWhy.TheVariants as why
 use Rattle.mips3_code.specs.Targets.{branch_target, jump_target}
-use Rattle.mips_text.specs.Names.{or_else}
+use Rattle.mips_text.specs.Least.{least}
 use Rattle.mips_text.specs.declared.item.Target.{Target}
 use Rattle.mips_text.specs.declared.item.Target.TheVariants.{Address, Label}
 use Rattle.mips_text.specs.declared.item.Item.{Item}
@@ -20,18 +20,17 @@ pub data Coded : Type 0 where
   Given : List ℕ → Coded
   Lacking : AsmWhy → Coded
 
--- the first number below a limit that passes a test
-unfoldable pub first_below : ℕ → (ℕ → Bool) → Option ℕ
-first_below zero test = None
-first_below (suc n) test = or_else (first_below n test) (if test n then Some n else None)
+-- a number, where it passes a test
+abbrev pub passing : (ℕ → Bool) → ℕ → Option ℕ
+passing test n = if test n then Some n else None
 
 -- the number of 16 bits by which a branch at an address goes to a target, if it can
 unfoldable pub distance_to : ℕ → ℕ → Option ℕ
-distance_to at target = first_below (2 ^ 16) (λ distance. branch_target at distance == target)
+distance_to at target = least (passing (λ distance. branch_target at distance == target)) (2 ^ 16)
 
 -- the number of 26 bits by which a jump at an address goes to a target, if it can
 unfoldable pub word_number : ℕ → ℕ → Option ℕ
-word_number at target = first_below (2 ^ 26) (λ number. jump_target at number == target)
+word_number at target = least (passing (λ number. jump_target at number == target)) (2 ^ 26)
 
 -- the bytes of an instruction
 abbrev pub word_of : Inst → Coded

@@ -1,5 +1,6 @@
 pub mod Tokens
 pub mod Names
+pub mod Least
 pub mod Values
 pub mod Forms
 pub mod Printed

@@ -3,7 +3,7 @@
 -- Source: the assembler language of this project, whose statements are the instruction formats of the MIPS R4000
 -- Microprocessor User's Manual, 2nd edition (Heinrich), appendix A, with a part of the further statements and of the
 -- directives of the MIPS assembler.
-use Rattle.std.specs.Prelude.{ℕ, ℤ, pos, negsuc, zero, suc, ◌/◌, ◌==◌, nat_lt, nat_le, Bool, true, false, not, ◌&&◌, ◌||◌, if◌then◌else◌, List, [], ◌∷◌, length, slice_index, slice_get, Option, Some, None, option_map, option_and_then}
+use Rattle.std.specs.Prelude.{ℕ, ℤ, pos, negsuc, zero, suc, ◌/◌, ◌==◌, nat_lt, nat_le, Bool, true, false, not, ◌&&◌, ◌||◌, if◌then◌else◌, List, [], ◌∷◌, length, slice_index, slice_get, Option, Some, None, option_map, option_and_then, Result, Ok, Err}
 use Rattle.mips3_table.specs.declared.instruction.Inst.{Inst}
 use Rattle.mips3_table.specs.Rows.{row_at}
 use Rattle.mips_text.specs.declared.reason.AsmWhy.{AsmWhy}
@@ -31,10 +31,9 @@ use Rattle.mips_text.specs.declared.operand.Operand.{Operand}
 use Rattle.mips_text.specs.declared.operand.Operand.TheVariants.{BranchTarget, JumpTarget}
 use Rattle.mips_text.specs.Forms.{Shape, Tokens, Numbers, operands_of, separated, shape_of, statement_named, token_text, names_no_register, has_kind, has_range, bits_in}
 
--- A line as it is read.
-pub data Reading : Type 0 where
-  Read : Line → Reading
-  Refused : AsmWhy → Reading
+-- a line as it is read: what it says, or the first reason for which it says nothing
+abbrev pub Reading : Type 0
+Reading = Result Line AsmWhy
 
 -- THE OPERANDS
 
@@ -240,21 +239,21 @@ is_too_long None = false
 
 -- a line that has no other fault than, maybe, too long a label
 abbrev pub with_label : Option (List ℕ) → Option Item → Reading
-with_label label item = if is_too_long label then Refused why.Range else Read (record { label = label; item = item })
+with_label label item = if is_too_long label then Err why.Range else Ok (record { label = label; item = item })
 
 -- a statement that puts this; one whose operands stand for nothing has wrong operands
 abbrev pub with_item : Option (List ℕ) → Option Item → Reading
 with_item label (Some item) = with_label label (Some item)
-with_item label None = Refused why.Operand
+with_item label None = Err why.Operand
 
 -- a statement by the fault of its operands
 abbrev pub statement_by_fault : List ℕ → Option (List ℕ) → Statement → List Token → Option AsmWhy → Reading
-statement_by_fault line label statement tokens (Some reason) = Refused reason
+statement_by_fault line label statement tokens (Some reason) = Err reason
 statement_by_fault line label statement tokens None = with_item label (item_of line statement tokens)
 
 -- a statement by its name
 abbrev pub statement_by_name : List ℕ → Option (List ℕ) → Option Statement → List Token → Reading
-statement_by_name line label None tokens = Refused why.Unknown
+statement_by_name line label None tokens = Err why.Unknown
 statement_by_name line label (Some statement) tokens =
     statement_by_fault line label statement tokens (operands_fault line (shape_of statement) tokens)
 
@@ -263,11 +262,11 @@ unfoldable pub read_statement : List ℕ → Option (List ℕ) → List Token �
 read_statement line label [] = with_label label None
 read_statement line label (name ∷ tokens) =
     if is_name name.kind then statement_by_name line label (statement_named (token_text line name)) tokens
-    else Refused why.Operand
+    else Err why.Operand
 
 -- a line that was cut into tokens, or refused there
 abbrev pub read_cut : List ℕ → Option AsmWhy → Parts → Reading
-read_cut line (Some reason) parts = Refused reason
+read_cut line (Some reason) parts = Err reason
 read_cut line None parts = read_statement line parts.label parts.statement
 
 -- The reading of a line, which has no newline.

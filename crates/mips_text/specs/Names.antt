@@ -2,6 +2,7 @@
 -- Source: MIPS R4000 Microprocessor User's Manual, 2nd edition (Heinrich), chapter 4, "CP0 Registers", for the names of
 -- the registers of coprocessor 0; System V ABI, MIPS supplement, "Registers", for those of the general registers.
 use Rattle.std.specs.Prelude.{ℕ, ◌==◌, nat_lt, if◌then◌else◌, List, [], ◌∷◌, drop, slice_index, slice_index_or, Option, Some, None, codes, bytes_eq, position}
+use Rattle.std.specs.Option.{option_or}
 use Rattle.r4_words.specs.Texts.{read_dec}
 
 -- the names of the general registers 0 to 31
@@ -37,15 +38,10 @@ below_32 None = None
 abbrev pub numbered : ℕ → List ℕ → Option ℕ
 numbered first text = if slice_index text 0 == first then below_32 (read_dec (drop 1 text)) else None
 
--- the first of two, if it is there, else the second
-abbrev pub or_else : Option ℕ → Option ℕ → Option ℕ
-or_else (Some n) other = Some n
-or_else None other = other
-
 -- the general register that a text names: by its name, as fp for s8, or as $0 to $31
 unfoldable pub register_of : List ℕ → Option ℕ
-register_of text = if bytes_eq text (codes "fp") then Some 30 else or_else (position (bytes_eq text) register_names) (numbered 36 text)
+register_of text = if bytes_eq text (codes "fp") then Some 30 else option_or (position (bytes_eq text) register_names) (numbered 36 text)
 
 -- the register of coprocessor 0 that a text names: by its name, or as c0 to c31
 unfoldable pub cp0_register_of : List ℕ → Option ℕ
-cp0_register_of text = or_else (position (bytes_eq text) cp0_names) (numbered 99 text)
+cp0_register_of text = option_or (position (bytes_eq text) cp0_names) (numbered 99 text)

@@ -9,8 +9,8 @@ use Rattle.mips_asm.proofs.Bases.{with_first, with_none}
 use Rattle.mips_asm.proofs.Filled.{IsFilledTo, filled_on, filled_fault, filled_sound}
 use Rattle.mips_asm.proofs.passes.fill.Goals as goal
 
-pub fill_line-requires-clause-short : goal.fill_line-requires-clause-short
-fill_line-requires-clause-short c = omega (arith, c.loop-rest.invariant, c.split_line-split.ensures.short)
+pub fill_line-requires : goal.fill_line-requires
+fill_line-requires c = omega (arith, c.loop-rest.invariant, c.split_line-split.ensures.short)
 
 pub returns-in-Err-Lacks-clause-fault : goal.returns-in-Err-Lacks-clause-fault
 returns-in-Err-Lacks-clause-fault c =
