@@ -1,7 +1,7 @@
 -- The lines of the report, one after another.
 use Rattle.std.proofs.Common.{◌≡◌, ℕ, suc, ◌+◌, ◌<◌, ◌≤◌, get_or, ◌*◌, List, [], ◌∷◌, ◌++◌, take, drop, length, refl, sym, ap, ◌∙◌, add-one, arith, append_assoc, append-nil}
 use Rattle.std.proofs.lemmas.List.{take_more, length-take}
-use Rattle.machine_core.specs.declared.registers.Regs.{Regs}
+use Rattle.mips3_alu.specs.declared.registers.Regs.{Regs}
 use Rattle.machine_core.specs.declared.lookaside.Pair.{Pair}
 use Rattle.machine_core.specs.Report.{register_lines, register_line, pair_lines, pair_line, bytes_lines, bytes_line}
 

@@ -1,4 +1,3 @@
-pub mod Registers
 pub mod SystemControl
 pub mod Lookaside
 pub mod Processor

@@ -3,7 +3,7 @@
 -- branch delay slot (chapter 3). The number of ticks and the halt code are this project's own.
 use Rattle.std.specs.Prelude.{ℕ, ◌+◌, ◌%◌, ◌^◌, true, false, None}
 use Rattle.machine_core.specs.declared.processor.Cpu.{Cpu}
-use Rattle.machine_core.specs.Registers.{with_register, zero_registers}
+use Rattle.mips3_alu.specs.Registers.{with_register, zero_registers}
 use Rattle.machine_core.specs.SystemControl.{reset_cp0}
 use Rattle.machine_core.specs.SystemControl as system
 use Rattle.machine_core.specs.Lookaside.{zero_pairs}

@@ -3,10 +3,10 @@
 use Rattle.std.specs.Prelude.{ℕ, zero, suc, Bool, ◌==◌, ◌+◌, ◌*◌, ◌/◌, ◌%◌, ◌&&◌, List, [], ◌∷◌, ◌++◌, length, take, drop, codes, if◌then◌else◌, Option, Some, None}
 use Rattle.std.specs.List.{flat_map}
 use Rattle.r4_words.specs.Texts.{hex_of, dec_of}
-use Rattle.machine_core.specs.declared.registers.Regs.{Regs}
+use Rattle.mips3_alu.specs.declared.registers.Regs.{Regs}
 use Rattle.machine_core.specs.declared.system_control.Cp0.{Cp0}
 use Rattle.machine_core.specs.declared.lookaside.Pair.{Pair}
-use Rattle.machine_core.specs.Registers.{register}
+use Rattle.mips3_alu.specs.Registers.{register}
 use Rattle.machine_core.specs.Shown.{Shown}
 
 -- a label and so many hexadecimal digits of a number

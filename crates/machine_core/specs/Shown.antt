@@ -1,6 +1,6 @@
 -- What a view shows of a machine's state.
 use Rattle.std.specs.Prelude.{ℕ, Bool, List, Option}
-use Rattle.machine_core.specs.declared.registers.Regs.{Regs}
+use Rattle.mips3_alu.specs.declared.registers.Regs.{Regs}
 use Rattle.machine_core.specs.declared.system_control.Cp0.{Cp0}
 use Rattle.machine_core.specs.declared.lookaside.Tlb.{Tlb}
 use Rattle.machine_core.specs.declared.machine_state.Machine.{Machine}

@@ -1,7 +1,7 @@
 -- One step of the processor, as a talk: the effects of the seven instructions that are built, after the MIPS R4000
 -- Microprocessor User's Manual, appendix A. Memory is reached in kernel mode through kseg1, which is unmapped and
 -- uncached (chapter 4). Every other way is a part that is not built yet.
-use Rattle.std.specs.Prelude.{ℕ, Bool, ◌==◌, ◌+◌, ◌-◌, ◌*◌, ◌/◌, ◌%◌, ◌^◌, ◌&&◌, bit_or, false, nat_lt, if◌then◌else◌, Option, Some, None}
+use Rattle.std.specs.Prelude.{ℕ, Bool, ◌==◌, ◌+◌, ◌*◌, ◌/◌, ◌%◌, ◌^◌, ◌&&◌, bit_or, false, if◌then◌else◌, Option, Some, None}
 use Rattle.r4_words.specs.Words.{sext16, sext32}
 use Rattle.machine_core.specs.declared.processor.Cpu.{Cpu}
 use Rattle.machine_core.specs.declared.talk.Access.{Access}
@@ -12,7 +12,7 @@ use Rattle.machine_core.specs.declared.talk.Request.TheVariants.{Fetch, Load, St
 use Rattle.machine_core.specs.declared.instructions.Instruction.{Instruction}
 use Rattle.machine_core.specs.declared.instructions.Instruction.TheVariants.{LoadUpperImmediate, OrImmediate, ShiftLeft, JumpRegister, LoadWord, StoreWord, MoveToStatus}
 use Rattle.machine_core.specs.Instructions.{instruction_of}
-use Rattle.machine_core.specs.Registers.{register, low_word}
+use Rattle.mips3_alu.specs.Registers.{register, low_word}
 use Rattle.machine_core.specs.SystemControl.{is_kernel, is_quiet, with_status}
 use Rattle.machine_core.specs.Processor.{advanced, jumped, with_result}
 use Rattle.machine_core.specs.Talk.{Talk, Done, Refuse, Ask}

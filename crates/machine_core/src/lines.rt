@@ -5,8 +5,8 @@ ghost use Rattle.arrayvec.specs.ArrayVec.{array_vec_len};
 ghost use Rattle.machine_core.specs.Report as law;
 
 use crate::lookaside::Pair;
-use crate::registers::Regs;
 use crate::system_control::Cp0;
+use mips3_alu::Regs;
 use r4_words::{Line, put_dec, put_hex, put_text};
 
 // Appends a label and so many hexadecimal digits of a number.

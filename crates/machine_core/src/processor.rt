@@ -4,8 +4,8 @@ ghost use Rattle.std.specs.Prelude.{◌≡◌, ◌+◌, ◌<◌};
 ghost use Rattle.machine_core.specs.Processor as law;
 
 use crate::lookaside::Tlb;
-use crate::registers::Regs;
 use crate::system_control::Cp0;
+use mips3_alu::Regs;
 
 /// The state of the processor: its registers, what its pipeline owes to a branch, CP0, the TLB, and how far
 /// the run has come.

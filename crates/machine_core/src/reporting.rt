@@ -12,9 +12,9 @@ use crate::lines::{
     pair_line, pc_line, register_line, tag_line, ticks_line,
 };
 use crate::lookaside::Pair;
-use crate::registers::Regs;
 use crate::shown::View;
 use crate::system_control::Cp0;
+use mips3_alu::Regs;
 use r4_ports::{Pending, Sink, SinkFault, finish, write_line};
 
 // The eight lines of the general registers.

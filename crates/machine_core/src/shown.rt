@@ -1,8 +1,8 @@
 //! What a machine shows to its reader.
 
 use crate::lookaside::Tlb;
-use crate::registers::Regs;
 use crate::system_control::Cp0;
+use mips3_alu::Regs;
 
 /// What the report tells of a state.
 #[derive(Drop)]

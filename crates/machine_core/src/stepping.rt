@@ -2,7 +2,7 @@
 
 ghost use Rattle.std.specs.Prelude.{◌≡◌, ◌<◌, ◌%◌, ◌^◌};
 ghost use Rattle.machine_core.specs.Step as law;
-ghost use Rattle.machine_core.specs.Registers.{low_word};
+ghost use Rattle.mips3_alu.specs.Registers.{low_word};
 ghost use Rattle.machine_core.specs.Talk.{hold};
 ghost use Rattle.machine_core.specs.Instructions.{HasFields};
 

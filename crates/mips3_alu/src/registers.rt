@@ -1,13 +1,22 @@
-//! The general registers with HI and LO.
+//! The general registers, HI and LO.
 
 ghost use Rattle.std.specs.Prelude.{◌≡◌, ◌<◌};
-ghost use Rattle.machine_core.specs.Registers as law;
+ghost use Rattle.mips3_alu.specs.Registers as law;
 
 /// The 32 general registers, of 64 bits each, with HI and LO. Register 0 reads as zero.
 #[derive(Clone, Copy)]
 pub struct Regs {
     /// The general registers by number.
     pub r: [u64; 32],
+    /// The high half of a product, or a remainder.
+    pub hi: u64,
+    /// The low half of a product, or a quotient.
+    pub lo: u64,
+}
+
+/// What goes to HI and LO.
+#[derive(Clone, Copy)]
+pub struct Halves {
     /// The high half of a product, or a remainder.
     pub hi: u64,
     /// The low half of a product, or a quotient.

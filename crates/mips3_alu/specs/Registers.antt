@@ -1,7 +1,7 @@
 -- The general registers with HI and LO, as the CPU register set of the MIPS R4000 Microprocessor User's Manual
 -- (chapter 1, "CPU Registers") has them: 32 registers of 64 bits, of which register 0 stays zero.
 use Rattle.std.specs.Prelude.{ℕ, ◌==◌, ◌%◌, ◌^◌, slice_index, slice_set, replicate, if◌then◌else◌}
-use Rattle.machine_core.specs.declared.registers.Regs.{Regs}
+use Rattle.mips3_alu.specs.declared.registers.Regs.{Regs}
 
 -- the register of a number
 abbrev pub register : Regs → ℕ → ℕ
