@@ -97,10 +97,11 @@ impl Cp0 {
     }
 
     /// Makes a field a number.
-    #[tactic(auto, using(crate::proofs::Masking::merged_only, crate::proofs::Masking::and_of_shifted))]
+    #[tactic(auto, using(crate::proofs::Masking::merged_only, crate::proofs::Masking::and_of_shifted, crate::proofs::ReadBack::read_back))]
     pub fn set_field(&mut self, field: Field, value: u32)
         requires field { IsFree field }
         ensures set { self.new ≡ with_value self.old field value }
+        ensures holds { value < 2 ^ (field.high - field.low + 1) → value_of self.new field ≡ value }
     {
         let bits = field.bits();
         let word = self.words[field.register as usize];

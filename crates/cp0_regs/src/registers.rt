@@ -55,7 +55,7 @@ pub fn shown_numbers() -> [u8; 20]
 
 /// The bits of a register that MTC0 writes.
 #[tactic(auto, unfolding(crate::specs::Registers::written_bits))]
-pub fn written_bits(number: u8) -> u32
+pub(crate) fn written_bits(number: u8) -> u32
     ensures bits { result ≡ law.written_bits number }
 {
     match number {

@@ -11,6 +11,7 @@
 mod arguments;
 mod arithmetic;
 mod instructions;
+mod system_control;
 
 use std::alloc::{AllocError, Global};
 use std::io;
@@ -19,7 +20,8 @@ use std::io::{BufRead, BufReader};
 // Appends what the call of a verb answers.
 fn put_answer(verb: &str, arguments: &str, out: &mut String) -> Result<(), AllocError> {
     let is_known = arithmetic::put_answer(verb, arguments, out)?
-        || instructions::put_answer(verb, arguments, out)?;
+        || instructions::put_answer(verb, arguments, out)?
+        || system_control::put_answer(verb, arguments, out)?;
     if is_known { Ok(()) } else { out.push_str("?") }
 }
 
