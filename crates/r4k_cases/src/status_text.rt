@@ -42,7 +42,6 @@ fn why_of(text: &str) -> Result<AsmWhy, Fault> {
 
 fn part_of(text: &str) -> Result<Part, Fault> {
     match text {
-        "Word" => Ok(Part::Word),
         "Access" => Ok(Part::Access),
         _ => Err(Fault::Unread),
     }

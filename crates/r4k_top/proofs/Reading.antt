@@ -4,8 +4,8 @@ use Rattle.std.proofs.Common.{◌≡◌, ℕ, List, [], ◌∷◌, Option, Some,
 use Rattle.std.specs.Prelude.{map, IsErrAnd}
 use Rattle.std.proofs.lemmas.List.{append-nil, map-append}
 use Rattle.machine_core.specs.declared.machine_state.Machine.{Machine}
-use Rattle.machine_core.specs.declared.ticking.Tick.{Tick}
-use Rattle.machine_core.specs.declared.ticking.Tick.TheVariants as tick
+use Rattle.mips3_exec.specs.declared.ticking.Tick.{Tick}
+use Rattle.mips3_exec.specs.declared.ticking.Tick.TheVariants as tick
 use Rattle.r4_ports.specs.Told.{Files, Call, file_of, fetch_of, Appended}
 use Rattle.r4k_top.specs.declared.statuses.Status.{Status}
 use Rattle.r4k_top.specs.declared.statuses.Status.TheVariants as status
@@ -200,8 +200,9 @@ of_told (Some own) name P is files told = subst (λ f. P (file_of f name)) (some
 -- a run makes no file
 run_file : (machine : Machine) (answer : Tick) (made : Made) → run_end machine answer ≡ Makes made → file_name made.file ≡ None
 run_file machine tick.Ran made e = cc
+run_file machine (tick.Trapped code) made e = cc
 run_file machine (tick.Halted code) made e = cc
-run_file machine (tick.Unbuilt part) made e = cc
+run_file machine tick.Unbuilt made e = cc
 
 pub report_alone : (steps : ℕ) (bytes : List ℕ) (made : Made) → run_job steps bytes ≡ Makes made → file_name made.file ≡ None
 unfolding run_job

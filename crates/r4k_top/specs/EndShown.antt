@@ -2,7 +2,7 @@
 use Rattle.std.specs.Prelude.{[], Some, None}
 use Rattle.image_listing.specs.Listing.{listing_of}
 use Rattle.machine_core.specs.Shown.{shown_of}
-use Rattle.machine_core.specs.Report.{report_of}
+use Rattle.run_report.specs.Report.{report_of}
 use Rattle.r4k_top.specs.declared.product.Product.{Product}
 use Rattle.r4k_top.specs.declared.product.Product.TheVariants as product
 use Rattle.r4k_top.specs.Outcome.{Made}

@@ -5,15 +5,16 @@ use Rattle.elf_image.specs.Written.{image_of}
 use Rattle.mips_asm.specs.Assembly.{Assembly, Image, Bad, assembled}
 use Rattle.image_listing.specs.Listing.{listing_of}
 use Rattle.machine_core.specs.declared.machine_state.Machine.{Machine}
-use Rattle.machine_core.specs.declared.ticking.Tick.{Tick}
-use Rattle.machine_core.specs.declared.ticking.Tick.TheVariants.{Ran, Halted, Unbuilt}
+use Rattle.mips3_exec.specs.declared.ticking.Tick.{Tick}
+use Rattle.mips3_exec.specs.declared.ticking.Tick.TheVariants.{Ran, Trapped, Halted, Unbuilt}
 use Rattle.machine_core.specs.Machine.{Reached, reset_of}
 use Rattle.machine_core.specs.Run.{run_of}
 use Rattle.machine_core.specs.Shown.{shown_of}
-use Rattle.machine_core.specs.Report.{report_of}
+use Rattle.run_report.specs.Report.{report_of}
 use Rattle.r4_ports.specs.Told.{Call, fetch_of}
 use Rattle.r4k_top.specs.BootProm.{boot_prom}
 use Rattle.r4k_top.specs.Command.{Command, Run, Assemble, Disassemble}
+use Rattle.r4k_top.specs.declared.statuses.Part.TheVariants.{Access}
 use Rattle.r4k_top.specs.Wanted.{Refusal, NoCommand, Refused, Stops, Wanted, refusal_of, wanted_of}
 
 -- a file for the shelf
@@ -44,11 +45,12 @@ pub data End : Type 0 where
 abbrev pub report_at : Machine → End
 report_at machine = Makes (record { text = report_of (shown_of machine); file = None })
 
--- a run that ended at a halt or at the bound makes its report
+-- a run that ended at a halt or at the bound makes its report; one that met an access that is not built stops there
 abbrev pub run_end : Machine → Tick → End
 run_end machine Ran = report_at machine
+run_end machine (Trapped code) = report_at machine
 run_end machine (Halted code) = report_at machine
-run_end machine (Unbuilt part) = Refuses (Stops machine.cpu.ticks part)
+run_end machine Unbuilt = Refuses (Stops machine.cpu.ticks Access)
 
 -- the run of an image's bytes from reset
 abbrev pub run_image : ℕ → List ℕ → Reached

@@ -5,8 +5,8 @@ use Rattle.elf_image.specs.declared.rules.ImageRule.{ImageRule}
 use Rattle.elf_image.specs.declared.rules.ImageRule.TheVariants as rule
 use Rattle.mips_text.specs.declared.reason.AsmWhy.{AsmWhy}
 use Rattle.mips_text.specs.declared.reason.AsmWhy.TheVariants as why
-use Rattle.machine_core.specs.declared.talk.Part.{Part}
-use Rattle.machine_core.specs.declared.talk.Part.TheVariants as part
+use Rattle.r4k_top.specs.declared.statuses.Part.{Part}
+use Rattle.r4k_top.specs.declared.statuses.Part.TheVariants as part
 use Rattle.r4k_top.specs.declared.statuses.Status.{Status}
 use Rattle.r4k_top.specs.declared.statuses.Status.TheVariants.{Done, Usage, ReadFault, WriteFault, BadImage, BadSource, Memory, TooLong, Unbuilt}
 
@@ -24,7 +24,6 @@ number_of (Unbuilt tick part) = 11
 
 -- the name of a part
 abbrev pub part_name : Part → List ℕ
-part_name part.Word = codes "Word"
 part_name part.Access = codes "Access"
 
 -- the name of a rule

@@ -5,7 +5,7 @@ use Rattle.elf_image.specs.declared.rules.ImageFault.{ImageFault}
 use Rattle.elf_image.specs.Rules.{image_fault}
 use Rattle.mips_text.specs.declared.reason.AsmWhy.{AsmWhy}
 use Rattle.mips_asm.specs.Assembly.{Assembly, Image, Bad, assembled}
-use Rattle.machine_core.specs.declared.talk.Part.{Part}
+use Rattle.r4k_top.specs.declared.statuses.Part.{Part}
 use Rattle.r4_ports.specs.Told.{Call, fetch_of, put_of}
 use Rattle.r4k_top.specs.Command.{Command, Run, Assemble, Disassemble, out_name}
 

@@ -14,9 +14,10 @@ use crate::commands::Command;
 use crate::files::{ImageFile, read_image_file, read_source};
 use crate::product::Product;
 use crate::prom_words::boot_prom;
-use crate::statuses::Status;
+use crate::statuses::{Part, Status};
 use elf_image::write_image;
-use machine_core::{Machine, Tick};
+use machine_core::Machine;
+use mips3_exec::Tick;
 use r4_ports::Shelf;
 use std::alloc::Global;
 
@@ -28,11 +29,11 @@ fn run_image<'a>(alloc: Global, image: &ImageFile, steps: u32) -> Result<Product
 {
     let mut machine = Machine::new(alloc, &boot_prom(), &image.image())?;
     match machine.run(steps) {
-        Tick::Unbuilt(part) => Err(Status::Unbuilt {
+        Tick::Unbuilt => Err(Status::Unbuilt {
             tick: machine.cpu.ticks,
-            part,
+            part: Part::Access,
         }),
-        Tick::Ran | Tick::Halted(_) => Ok(Product::Report(machine)),
+        Tick::Ran | Tick::Trapped(_) | Tick::Halted(_) => Ok(Product::Report(machine)),
     }
 }
 

@@ -26,11 +26,10 @@ pub use crate::files::FILE_LIMIT;
 use crate::job::make;
 use crate::product::deliver;
 pub use elf_image::ImageRule;
-pub use machine_core::Part;
 pub use mips_text::AsmWhy;
 pub use prom_words::boot_prom;
 use r4_ports::{Shelf, Sink};
-pub use statuses::{Status, report_status, status_number, write_status};
+pub use statuses::{Part, Status, report_status, status_number, write_status};
 use std::alloc::Global;
 
 /// Does what the words say: it fetches the files that the command wants, makes what it asks for, and then writes that to the

@@ -11,8 +11,9 @@ ghost use Rattle.r4k_top.specs.Making.{IsLate, PutAfter};
 use crate::files::ImageFile;
 use crate::statuses::Status;
 use image_listing::write_listing;
-use machine_core::{Machine, write_report};
+use machine_core::Machine;
 use r4_ports::{PutFault, Shelf, Sink, SinkFault, write_all};
+use run_report::write_report;
 
 /// What a job makes.
 #[derive(Drop)]

@@ -6,10 +6,16 @@ ghost use Rattle.r4_ports.specs.Told.{Appended, AppendedPrefix, HasCause, Rose};
 ghost use Rattle.r4k_top.specs.StatusText as law;
 
 use elf_image::ImageRule;
-use machine_core::Part;
 use mips_text::AsmWhy;
 use r4_ports::{Sink, SinkFault, write_all};
 use r4_words::{Line, Memory, put_dec, put_text};
+
+/// What is not built yet.
+#[derive(Clone, Copy)]
+pub enum Part {
+    /// A load, store, fetch or cache operation: one through the caches, or at a device register that is not built.
+    Access,
+}
 
 /// How the program ended.
 #[derive(Clone, Copy)]
@@ -68,7 +74,6 @@ fn part_name(part: Part) -> &'static [u8]
     ensures short { length result.now ≤ 6 }
 {
     match part {
-        Part::Word => b"Word",
         Part::Access => b"Access",
     }
 }
