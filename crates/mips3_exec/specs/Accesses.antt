@@ -49,7 +49,8 @@ left n va = record { first = va; size = n - va % n; place = 8 - n; unit = n; ali
 abbrev pub right : ℕ → ℕ → Moved
 right n va = record { first = va - va % n; size = va % n + 1; place = 7 - va % n; unit = n; alignment = 1 }
 
--- The bytes that an operation moves at an address. What is not listed moves none; a cache operation is aimed at the byte there.
+-- The bytes that an operation moves at an address. What is not listed moves none; a cache operation is aimed at the byte
+-- there.
 abbrev pub moved : Operation → ℕ → Moved
 moved (Load size signedness) va = whole (bytes_of_size size) va
 moved (LoadLeft width) va = left (bytes_of_width width) va
@@ -112,8 +113,8 @@ signedness_of _ = Signed
 abbrev pub merged : Moved → ℕ → ℕ → ℕ
 merged m old bytes = number_of_bytes (put_bytes (register_bytes old) m.place (bytes_high_first m.size bytes))
 
--- The register after a load at an address, by what it was and the number of the bytes read: of the merged number the low bytes
--- that the operation concerns, extended to 64 bits.
+-- The register after a load at an address, by what it was and the number of the bytes read: of the merged number the low
+-- bytes that the operation concerns, extended to 64 bits.
 unfoldable pub loaded_by : Operation → ℕ → ℕ → ℕ → ℕ
 loaded_by operation old va bytes =
     as_register (signedness_of operation) (8 * (moved operation va).unit) (merged (moved operation va) old bytes)

@@ -15,8 +15,9 @@ pub enum Effect {
         hi: u64,
         lo: u64,
     },
-    /// A jump or a branch: whether it is taken, whether the delay slot is passed over where it is not, where it goes, and the
-    /// register and the value of its link. The link is set whether it is taken or not; its register is 0 where there is none.
+    /// A jump or a branch: whether it is taken, whether the delay slot is passed over where it is not, where it goes, and
+    /// the register and the value of its link. The link is set whether it is taken or not; its register is 0 where there
+    /// is none.
     Jump {
         taken: bool,
         likely: bool,

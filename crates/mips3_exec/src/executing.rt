@@ -112,7 +112,8 @@ fn left_shift(width: Width, by: Amount, inst: &Inst, regs: &Regs) -> u64
     requires rt { inst.now.rt < 32 }
     requires sa { inst.now.sa < 32 }
     requires within { IsTrue (amount_fits by width) }
-    ensures { result ≡ arithmetic.shifted_left (bits width) (operands.shifted_of inst.now regs.now) (operands.amount_of by width inst.now regs.now) }
+    ensures { result ≡ arithmetic.shifted_left (bits width) (operands.shifted_of inst.now regs.now)
+        (operands.amount_of by width inst.now regs.now) }
 {
     let value = regs.read(inst.rt);
     let amount = amount(by, width, inst, regs);
@@ -128,7 +129,8 @@ fn logical_shift(width: Width, by: Amount, inst: &Inst, regs: &Regs) -> u64
     requires rt { inst.now.rt < 32 }
     requires sa { inst.now.sa < 32 }
     requires within { IsTrue (amount_fits by width) }
-    ensures { result ≡ arithmetic.shifted_right_logical (bits width) (operands.shifted_of inst.now regs.now) (operands.amount_of by width inst.now regs.now) }
+    ensures { result ≡ arithmetic.shifted_right_logical (bits width) (operands.shifted_of inst.now regs.now)
+        (operands.amount_of by width inst.now regs.now) }
 {
     let value = regs.read(inst.rt);
     let amount = amount(by, width, inst, regs);
@@ -144,7 +146,8 @@ fn arithmetic_shift(width: Width, by: Amount, inst: &Inst, regs: &Regs) -> u64
     requires rt { inst.now.rt < 32 }
     requires sa { inst.now.sa < 32 }
     requires within { IsTrue (amount_fits by width) }
-    ensures { result ≡ arithmetic.shifted_right_arithmetic (bits width) (operands.shifted_of inst.now regs.now) (operands.amount_of by width inst.now regs.now) }
+    ensures { result ≡ arithmetic.shifted_right_arithmetic (bits width) (operands.shifted_of inst.now regs.now)
+        (operands.amount_of by width inst.now regs.now) }
 {
     let value = regs.read(inst.rt);
     let amount = amount(by, width, inst, regs);
