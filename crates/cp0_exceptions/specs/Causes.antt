@@ -1,6 +1,6 @@
 -- The causes of exceptions: for each its code in Cause, and what it changes beside that and the place to come back to.
--- Source: MIPS R4000 Microprocessor User's Manual (Heinrich, 2nd edition), chapter 5, table 5-5, "Cause Register ExcCode
--- Field", and the page of each exception. There is no floating point, watch register or reserved code here.
+-- Source: MIPS R4000 Microprocessor User's Manual (Heinrich, 2nd edition), chapter 5, "Cause Register", the codes of its field
+-- ExcCode, and the section of each exception. There is no floating point, watch register or reserved code here.
 use Rattle.std.specs.Prelude.{◌≡◌, ℕ, ◌==◌, ◌<◌, Bool, true, false, List, [], ◌∷◌, Option, Some, None, is_some}
 use Rattle.std.specs.List.{find}
 use Rattle.cp0_exceptions.specs.declared.raising.Raised.{Raised}

@@ -1,6 +1,6 @@
 -- The fields of the registers, by the manual's names: the register's number, and the highest and the lowest bit.
--- Source: MIPS R4000 Microprocessor User's Manual (Heinrich, 2nd edition), chapter 4 (Context, EntryHi, Config) and
--- chapter 5 (Status, Cause). What the manual has beside these is zero here.
+-- Source: MIPS R4000 Microprocessor User's Manual (Heinrich, 2nd edition), chapter 4 (EntryHi, Config) and
+-- chapter 5 (Context, Status, Cause). What the manual has beside these is zero here.
 use Rattle.std.specs.Prelude.{ℕ, ◌+◌, List, [], ◌∷◌}
 use Rattle.cp0_regs.specs.declared.fields.Field.{Field}
 use Rattle.cp0_regs.specs.Bits.{bits}

@@ -1,5 +1,6 @@
 -- The registers of CP0: one row for each, to be laid beside the manual.
--- Source: MIPS R4000 Microprocessor User's Manual (Heinrich, 2nd edition), chapter 4, "CP0 Registers", and chapter 5. Values at
+-- Source: MIPS R4000 Microprocessor User's Manual (Heinrich, 2nd edition), chapter 4, "CP0 Registers", and chapter 5,
+-- "Exception Processing Registers". Values at
 -- reset that the manual leaves open, and the bits that are zero here and not there (floating point, 64-bit addresses, reverse
 -- endian, parity), are this machine's own.
 use Rattle.std.specs.Prelude.{ℕ, ◌+◌, ◌==◌, List, [], ◌∷◌, map, Option, Some, None}

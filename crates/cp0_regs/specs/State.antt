@@ -1,5 +1,5 @@
 -- The state of CP0: the 32 registers by number, those that are not listed among them, which are zero.
--- Source: MIPS R4000 Microprocessor User's Manual (Heinrich, 2nd edition), chapter 4, "CP0 Registers".
+-- Source: MIPS R4000 Microprocessor User's Manual (Heinrich, 2nd edition), chapters 4 and 5, the registers of CP0.
 use Rattle.std.specs.Prelude.{◌≤◌, ◌<◌, ◌≢◌, ℕ, ◌*◌, ◌^◌, List, slice_index, slice_set}
 use Rattle.cp0_regs.specs.declared.fields.Field.{Field}
 use Rattle.cp0_regs.specs.Bits.{HasOnly, field, merged}

@@ -50,7 +50,7 @@ fn taken_by(number: u8, value: u32) -> u32
 
 impl Cp0 {
     /// The registers at reset, with what the shape of the caches gives for Config.
-    #[tactic(auto, using(crate::proofs::Possible::reset_possible), unfolding(crate::specs::Registers::reset_cp0))]
+    #[tactic(auto, unfolding(crate::specs::Registers::reset_cp0))]
     pub fn new(config: u32) -> Cp0
         ensures reset { result ≡ reset_cp0 config }
     {

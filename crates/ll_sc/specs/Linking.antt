@@ -1,5 +1,5 @@
 -- The link between a load linked and a store conditional: a bit, and the physical address in LLAddr.
--- Source: MIPS R4000 Microprocessor User's Manual (Heinrich, 2nd edition), appendix A, LL, SC and ERET; chapter 5, "LLAddr
+-- Source: MIPS R4000 Microprocessor User's Manual (Heinrich, 2nd edition), appendix A, LL, SC and ERET; chapter 4, "LLAddr
 -- Register", which has bits 35:4 of the physical address.
 use Rattle.std.specs.Prelude.{ℕ, ◌/◌, Bool, true, false, List}
 use Rattle.cp0_regs.specs.Registers.{ll_addr}
