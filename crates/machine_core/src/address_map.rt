@@ -143,6 +143,8 @@ impl MemorySystem for Bus {
 
     ghost ask_gives = { bus_ask };
 
+    // Each caller asks one kind of request, of which the others are cut away.
+    #[inline(always)]
     #[tactic(auto, unfolding(crate::specs::AddressMap::bus_ask))]
     fn ask(&mut self, request: Request) -> Reply {
         match request {

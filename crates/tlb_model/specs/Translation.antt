@@ -23,9 +23,13 @@ covers pair va = bit_and (bit_xor va pair.hi) (compared_bits pair) == 0
 abbrev pub is_global : Pair → Bool
 is_global pair = (global_bit pair.lo0 == 1) && (global_bit pair.lo1 == 1)
 
+-- a pair is global, or of an address space
+abbrev pub is_in_space : ℕ → Pair → Bool
+is_in_space asid pair = is_global pair || (asid_of pair.hi == asid)
+
 -- a pair matches an address of an address space: it covers it, and is global or of that space
 abbrev pub is_match : ℕ → ℕ → Pair → Bool
-is_match va asid pair = covers pair va && (is_global pair || (asid_of pair.hi == asid))
+is_match va asid pair = covers pair va && is_in_space asid pair
 
 -- the first pair that matches, and its index
 abbrev pub first_match : List Pair → ℕ → ℕ → Option Pair

@@ -20,15 +20,23 @@ pub enum Found {
     Modified,
 }
 
-// Whether a pair matches an address of an address space.
-fn is_match(pair: Pair, va: u32, asid: u8) -> bool
-    requires { IsPair pair }
-    ensures matched { result ≡ law.is_match va asid pair }
+// Whether a pair is global, or of an address space.
+#[inline(never)]
+fn is_in_space(pair: &Pair, asid: u8) -> bool
+    ensures space { result ≡ law.is_in_space asid pair.now }
 {
-    let covers = (va ^ pair.hi) & (0xffff_e000 - pair.mask) == 0;
     let global = pair.lo0 % 2 == 1 && pair.lo1 % 2 == 1;
     let owned = pair.hi % 256 == u32::from(asid);
-    covers && (global || owned)
+    global || owned
+}
+
+// Whether a pair matches an address of an address space. Few pairs cover an address, so the space is asked for apart.
+#[inline(always)]
+fn is_match(pair: &Pair, va: u32, asid: u8) -> bool
+    requires { IsPair pair.now }
+    ensures matched { result ≡ law.is_match va asid pair.now }
+{
+    (va ^ pair.hi) & (0xffff_e000 - pair.mask) == 0 && is_in_space(pair, asid)
 }
 
 // What the pair has for an access.
@@ -63,7 +71,7 @@ pub fn first_index(pairs: &[Pair], va: u32, asid: u8) -> Option<u32>
     ensures index { IfSome result (λ at. at < 48) }
 {
     for at in 0..pairs.len() {
-        if is_match(pairs[at], va, asid) {
+        if is_match(&pairs[at], va, asid) {
             return Some(at as u32);
         }
     }
@@ -77,7 +85,7 @@ pub fn translate(pairs: &[Pair], va: u32, asid: u8, write: bool) -> Found
     ensures place { IsFound va result }
 {
     for pair in pairs {
-        if is_match(*pair, va, asid) {
+        if is_match(pair, va, asid) {
             return found_in(*pair, va, write);
         }
     }
