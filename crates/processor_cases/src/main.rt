@@ -5,7 +5,8 @@
 //! same text as `stdin`: a case says in itself what must come, and a further case is a line and no code. An argument that
 //! is none, or a verb that there is not, is answered by a question mark.
 //!
-//! `arguments` reads the parts of a case; each other module has the verbs of one library.
+//! `arguments` reads the parts of a case, and `scripted` is the memory system of the ticks; each other module has the verbs of one
+//! library, of which `steps` has the processor's tick.
 #![tactic(auto)]
 
 mod arguments;
