@@ -82,13 +82,8 @@ fn set(scene: &mut Scene, name: &str, value: u64) -> Option<()> {
 fn put_case(verb: &str, inst: &Inst, scene: &Scene, out: &mut String) -> Result<(), AllocError>
     requires { IsInst inst.now }
 {
-    let mut line = Line::new();
-    print_inst(inst, scene.pc, &mut line);
-    write!(
-        out,
-        "{}: ",
-        std::str::from_utf8(line.as_slice()).unwrap_or("?")
-    )?;
+    put_instruction(inst, scene.pc, out)?;
+    out.push_str(": ")?;
     match verb {
         "effect" => put_effect(inst, scene, out),
         "loaded" => put_loaded(inst, scene, out),
@@ -96,7 +91,25 @@ fn put_case(verb: &str, inst: &Inst, scene: &Scene, out: &mut String) -> Result<
     }
 }
 
-fn register_name(register: u8) -> &'static str {
+// Appends the text of an instruction at an address.
+fn put_instruction(inst: &Inst, at: u32, out: &mut String) -> Result<(), AllocError>
+    requires { IsInst inst.now }
+{
+    let mut line = Line::new();
+    print_inst(inst, at, &mut line);
+    out.push_str(std::str::from_utf8(line.as_slice()).unwrap_or("?"))
+}
+
+/// Appends the text of a word's instruction at an address.
+pub fn put_text(word: u32, at: u32, out: &mut String) -> Result<(), AllocError> {
+    match decode(word) {
+        Some(inst) => put_instruction(&inst, at, out),
+        None => out.push_str("reserved"),
+    }
+}
+
+/// The name of a register.
+pub fn register_name(register: u8) -> &'static str {
     NAMES.split(' ').nth(usize::from(register)).unwrap_or("?")
 }
 

@@ -5,12 +5,15 @@
 //! same text as `stdin`: a case says in itself what must come, and a further case is a line and no code. An argument that
 //! is none, or a verb that there is not, is answered by a question mark.
 //!
-//! `arguments` reads the parts of a case; each other module has the verbs of one library.
+//! `arguments` reads the parts of a case, and `scripted` is the memory system of the ticks; each other module has the verbs of one
+//! library, of which `steps` has the processor's tick.
 #![tactic(auto)]
 
 mod arguments;
 mod arithmetic;
 mod instructions;
+mod scripted;
+mod steps;
 mod system_control;
 
 use std::alloc::{AllocError, Global};
@@ -21,7 +24,8 @@ use std::io::{BufRead, BufReader};
 fn put_answer(verb: &str, arguments: &str, out: &mut String) -> Result<(), AllocError> {
     let is_known = arithmetic::put_answer(verb, arguments, out)?
         || instructions::put_answer(verb, arguments, out)?
-        || system_control::put_answer(verb, arguments, out)?;
+        || system_control::put_answer(verb, arguments, out)?
+        || steps::put_answer(verb, arguments, out)?;
     if is_known { Ok(()) } else { out.push_str("?") }
 }
 
