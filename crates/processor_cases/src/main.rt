@@ -12,6 +12,7 @@
 mod arguments;
 mod arithmetic;
 mod instructions;
+mod lookaside;
 mod scripted;
 mod steps;
 mod system_control;
@@ -24,6 +25,7 @@ use std::io::{BufRead, BufReader};
 fn put_answer(verb: &str, arguments: &str, out: &mut String) -> Result<(), AllocError> {
     let is_known = arithmetic::put_answer(verb, arguments, out)?
         || instructions::put_answer(verb, arguments, out)?
+        || lookaside::put_answer(verb, arguments, out)?
         || system_control::put_answer(verb, arguments, out)?
         || steps::put_answer(verb, arguments, out)?;
     if is_known { Ok(()) } else { out.push_str("?") }
