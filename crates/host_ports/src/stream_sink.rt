@@ -1,9 +1,9 @@
 //! A stream as a sink, behind a buffer.
 
-ghost use Rattle.std.specs.Prelude.{◌≡◌, ◌==◌, ◌≤◌, ◌<◌, ◌+◌, ◌-◌, ◌^◌, ℕ, min, take, length, [], None, IsErr, OnOk, OnErr};
+ghost use Rattle.std.specs.Prelude.{◌≡◌, ◌==◌, ◌≤◌, ◌<◌, ◌+◌, ◌-◌, ◌^◌, ℕ, true, min, take, length, [], None, IsErr, OnOk, OnErr};
 ghost use Rattle.std.specs.Io.KnownBytes.{append_known, Appends, Keeps};
 ghost use Rattle.arrayvec.specs.ArrayVec.{array_vec_len};
-ghost use Rattle.r4_ports.specs.Told.{HasCause};
+ghost use Rattle.r4_ports.specs.Told.{HasCause, Appended, AppendedPrefix};
 
 use crate::streams::write_whole;
 use arrayvec::ArrayVec;
@@ -113,11 +113,25 @@ impl<W: Write + Drop> Sink for StdSink<W> {
 
     ghost faults = { λ sink. sink.faults };
 
-    fn write(&mut self, piece: &[u8]) -> Result<(), SinkFault> {
+    // The clauses but the last are the trait's, where nothing is told; the last is that of `take_piece`.
+    fn write(&mut self, piece: &[u8]) -> Result<(), SinkFault>
+        requires { length piece.now ≤ 128 }
+        ensures ok { OnOk result (Appended None None piece.now) }
+        ensures err { OnErr result (AppendedPrefix None None piece.now) }
+        ensures cause { HasCause self.old.faults self.new.faults result }
+        ensures bytes { OnOk result (Appends (append_known (W.contents self.old.out) self.old.waiting.items)
+            (append_known (W.contents self.new.out) self.new.waiting.items) piece.now) }
+    {
         self.take_piece(piece)
     }
 
-    fn flush(&mut self) -> Result<(), SinkFault> {
+    // The clauses but the last are the trait's; the last is that of `flush_all`.
+    fn flush(&mut self) -> Result<(), SinkFault>
+        ensures flushed { OnOk result ((length self.new.waiting.items == 0) ≡ true) }
+        ensures cause { HasCause self.old.faults self.new.faults result }
+        ensures bytes { OnOk result
+            (Keeps (append_known (W.contents self.old.out) self.old.waiting.items) (W.contents self.new.out)) }
+    {
         self.flush_all()
     }
 }
