@@ -6,7 +6,6 @@ ghost use Rattle.machine_core.specs.AddressMap as law;
 ghost use Rattle.machine_core.specs.Replies.{IsReplyOf, IsWordReply};
 
 use crate::output::Console;
-
 use flat_ram::{DEVICE_BASE, PROM_BASE, Prom, Ram, Spot, where_is};
 use mips3_exec::{MemorySystem, Reply, Request};
 

@@ -133,7 +133,15 @@ pub fn system_line(cp0: &Cp0, at: usize) -> Line
     let mut line = Line::new();
     put_text(b"c", &mut line);
     put_dec(u64::from(shown_numbers()[at]), &mut line);
-    put_four([held_at(cp0, at), held_at(cp0, at + 1), held_at(cp0, at + 2), held_at(cp0, at + 3)], &mut line);
+    put_four(
+        [
+            held_at(cp0, at),
+            held_at(cp0, at + 1),
+            held_at(cp0, at + 2),
+            held_at(cp0, at + 3),
+        ],
+        &mut line,
+    );
     line
 }
 

@@ -32,7 +32,7 @@ hi_stored mask hi is only =
     let parts = and_parts (bit_and (all_bits - mask) (hi_bits - mask) == hi_bits - mask) (bit_and hi_bits (all_bits - mask) == hi_bits - mask) (kept mask is) in
     let left : bit_and (bit_and hi (all_bits - mask)) (hi_bits - mask) ≡ bit_and hi (hi_bits - mask) = and_assoc (hi_bits - mask) hi (all_bits - mask) ∙ ap (bit_and hi) (eqb-true _ _ parts.0) in
     let right : bit_and hi (all_bits - mask) ≡ bit_and hi (hi_bits - mask) =
-        ap (λ n. bit_and n (all_bits - mask)) (sym only.is) ∙ and_assoc (all_bits - mask) hi hi_bits ∙ ap (bit_and hi) (eqb-true _ _ parts.1) in
+    ap (λ n. bit_and n (all_bits - mask)) (sym only.is) ∙ and_assoc (all_bits - mask) hi hi_bits ∙ ap (bit_and hi) (eqb-true _ _ parts.1) in
     record { is = left ∙ sym right }
 
 -- a number with only the bits of an EntryLo is one below 2 ^ 30

@@ -79,9 +79,7 @@ impl Tlb {
     pub fn new() -> Tlb
         ensures zero { result ≡ law.zero_pairs }
     {
-        Tlb {
-            pairs: [ZERO; 48],
-        }
+        Tlb { pairs: [ZERO; 48] }
     }
 
     /// The pair at an index.
