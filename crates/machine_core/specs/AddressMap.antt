@@ -1,7 +1,7 @@
 -- The memory system of this machine: the physical map with RAM, the PROM and three device registers, past the caches. The map and
 -- the devices are this project's own. Accesses through the caches, cache operations, and the other device registers are not
 -- built yet.
-use Rattle.std.specs.Prelude.{ℕ, Bool, ◌==◌, ◌-◌, ◌/◌, ◌%◌, ◌^◌, ◌&&◌, ◌||◌, not, List, [], ◌∷◌, slice_index, if◌then◌else◌}
+use Rattle.std.specs.Prelude.{ℕ, Bool, ◌==◌, ◌-◌, ◌/◌, ◌%◌, ◌^◌, ◌&&◌, ◌||◌, List, [], ◌∷◌, slice_index, if◌then◌else◌}
 use Rattle.std.specs.Int.{bytes_high_first}
 use Rattle.std.specs.List.{list_any}
 use Rattle.flat_ram.specs.Bytes.{word_at, number_at, number_in_words, put_bytes}
@@ -9,7 +9,6 @@ use Rattle.flat_ram.specs.Map.{prom_base, device_base, spot_of}
 use Rattle.flat_ram.specs.declared.map.Spot.{Spot}
 use Rattle.flat_ram.specs.declared.map.Spot.TheVariants.{Ram, Prom, Device, Empty}
 use Rattle.machine_core.specs.declared.address_map.Bus.{Bus}
-use Rattle.mips3_exec.specs.declared.talk.Access.{Access}
 use Rattle.mips3_exec.specs.declared.talk.Request.{Request}
 use Rattle.mips3_exec.specs.declared.talk.Request.TheVariants.{Inputs, Beat, Levels, Fetch, Load, Store, Cache}
 use Rattle.mips3_exec.specs.declared.talk.Reply.{Reply}

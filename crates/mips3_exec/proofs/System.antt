@@ -1,5 +1,5 @@
 -- What the instructions of coprocessor 0 put into its registers, and into the pairs of the TLB, these can have.
-use Rattle.std.proofs.Common.{◌≡◌, ◌∙◌, refl, sym, ap, ℕ, ◌<◌, ◌≤◌, ◌^◌, arith}
+use Rattle.std.proofs.Common.{◌≡◌, ◌∙◌, refl, sym, ap, ℕ, ◌<◌, ◌^◌, arith}
 use Rattle.std.proofs.lemmas.Nat.{and_assoc, and_mask}
 use Rattle.std.specs.Prelude.{bit_and}
 use Rattle.cp0_regs.specs.Bits.{HasOnly}

@@ -2,7 +2,7 @@
 -- Source: MIPS R4000 Microprocessor User's Manual, 2nd edition (Heinrich): the CPU registers (chapter 1), CP0 (chapters 4 and
 -- 5), the TLB (chapter 4), the link bit (appendix A, LL and SC), and the branch delay slot (chapter 3). The number of ticks and
 -- the halt code are this project's own.
-use Rattle.std.specs.Prelude.{ℕ, Bool, ◌+◌, ◌%◌, ◌^◌, true, false, if◌then◌else◌, Option, Some, None}
+use Rattle.std.specs.Prelude.{ℕ, Bool, ◌+◌, ◌%◌, ◌^◌, true, false, if◌then◌else◌, None}
 use Rattle.mips3_alu.specs.Registers.{with_register, zero_registers}
 use Rattle.cp0_regs.specs.Registers.{reset_cp0}
 use Rattle.cp0_regs.specs.Counting as system

@@ -17,7 +17,6 @@ use Rattle.mips3_exec.specs.declared.routes.Route.{Route}
 use Rattle.mips3_exec.specs.declared.routes.Route.TheVariants.{To, Fault}
 use Rattle.mips3_exec.specs.declared.references.Reference.{Reference}
 use Rattle.mips3_exec.specs.declared.talk.Access.{Access}
-use Rattle.mips3_exec.specs.declared.talk.StepEnd.{StepEnd}
 use Rattle.mips3_exec.specs.declared.talk.StepEnd.TheVariants.{Went, Trapped, Lacks}
 use Rattle.mips3_exec.specs.declared.talk.Reply.{Reply}
 use Rattle.mips3_exec.specs.declared.talk.Reply.TheVariants.{Value, Stored, Halt, Tag, Coherency, Missing}

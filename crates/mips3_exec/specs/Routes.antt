@@ -1,7 +1,7 @@
 -- How the processor reaches memory: from a virtual address to a physical one, or to the exception of the address.
 -- Source: MIPS R4000 Microprocessor User's Manual, 2nd edition (Heinrich), chapter 4 (the segments of each mode, and the
 -- translation of a virtual address by the TLB) and chapter 5 (the address error and the TLB exceptions, and their codes).
-use Rattle.std.specs.Prelude.{ℕ, Bool, true, false, ◌<◌, Option, Some, None, if◌then◌else◌}
+use Rattle.std.specs.Prelude.{ℕ, Bool, true, false, Some, None, if◌then◌else◌}
 use Rattle.cp0_regs.specs.Fields.{asid, k0, erl}
 use Rattle.cp0_regs.specs.Modes.{mode_of, is_set, is_quiet}
 use Rattle.cp0_regs.specs.State.{value_of}

@@ -5,7 +5,7 @@
 --   modified, bus error and virtual coherency of its data.
 -- Source: MIPS R4000 Microprocessor User's Manual, 2nd edition (Heinrich), chapter 5 (exceptions and their priority) and
 -- chapter 4 (operating modes).
-use Rattle.std.specs.Prelude.{ℕ, Bool, true, false, not, ◌==◌, ◌&&◌, ◌%◌, Option, Some, None, if◌then◌else◌}
+use Rattle.std.specs.Prelude.{ℕ, false, not, ◌==◌, ◌&&◌, ◌%◌, Option, Some, None, if◌then◌else◌}
 use Rattle.mips3_table.specs.declared.instruction.Inst.{Inst}
 use Rattle.mips3_table.specs.Rows.{row_at}
 use Rattle.mips3_code.specs.Coding.{decoded}

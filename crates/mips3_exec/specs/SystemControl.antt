@@ -3,7 +3,7 @@
 -- Source: MIPS R4000 Microprocessor User's Manual, 2nd edition (Heinrich), appendix A, the pages of MFC0, MTC0, DMFC0, DMTC0,
 -- TLBR, TLBWI, TLBWR, TLBP and ERET; chapter 4 for the registers of the TLB's pairs. CP0 has registers of 32 bits here, and
 -- an index past the last pair writes nothing and reads zeros: both are this project's own.
-use Rattle.std.specs.Prelude.{ℕ, Bool, true, false, ◌==◌, ◌&&◌, ◌+◌, ◌-◌, ◌*◌, ◌/◌, ◌%◌, ◌^◌, bit_and, nat_lt, if◌then◌else◌, List, slice_index, slice_set, Option, Some, None}
+use Rattle.std.specs.Prelude.{ℕ, Bool, true, false, ◌==◌, ◌%◌, ◌^◌, nat_lt, if◌then◌else◌, List, slice_index, slice_set, Option, Some, None}
 use Rattle.r4_words.specs.Words.{sext32}
 use Rattle.mips3_table.specs.declared.instruction.Inst.{Inst}
 use Rattle.mips3_table.specs.declared.operations.Operation.{Operation}

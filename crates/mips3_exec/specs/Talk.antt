@@ -2,7 +2,7 @@
 -- or it asks one request and goes on with the reply. A memory system is a type with a function from what it is and
 -- a request to what it is then and its reply. This is the free-monad form of an instruction set's semantics, as Sail
 -- has it for its models.
-use Rattle.std.specs.Prelude.{ℕ, Bool, true, false, ◌≡◌, ◌==◌, ◌&&◌, nat_lt, nat_le, ◌<◌, ◌+◌, ◌%◌, ◌^◌}
+use Rattle.std.specs.Prelude.{ℕ, Bool, true, ◌≡◌, ◌==◌, ◌&&◌, nat_lt, nat_le, ◌<◌, ◌+◌, ◌%◌, ◌^◌}
 use Rattle.mips3_exec.specs.declared.processor.Cpu.{Cpu}
 use Rattle.mips3_exec.specs.declared.talk.Access.{Access}
 use Rattle.mips3_exec.specs.declared.talk.StepEnd.{StepEnd}

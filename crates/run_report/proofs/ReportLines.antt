@@ -1,6 +1,5 @@
 -- The lines of the report, one after another.
-use Rattle.std.proofs.Common.{◌≡◌, ℕ, suc, ◌+◌, ◌<◌, ◌≤◌, get_or, ◌*◌, List, [], ◌∷◌, ◌++◌, take, drop, length, refl, sym, ap, ◌∙◌, add-one, arith, append_assoc, append-nil}
-use Rattle.std.proofs.lemmas.List.{take_more, length-take}
+use Rattle.std.proofs.Common.{◌≡◌, ℕ, ◌+◌, ◌*◌, List, [], ◌++◌, take, drop, refl, add-one}
 use Rattle.mips3_alu.specs.declared.registers.Regs.{Regs}
 use Rattle.tlb_model.specs.declared.pairs.Pair.{Pair}
 use Rattle.tlb_model.specs.Pairs.{pair_at}

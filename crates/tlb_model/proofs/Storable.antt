@@ -1,13 +1,12 @@
 -- What is stored of the registers is a pair, and what a pair has goes into the registers.
-use Rattle.std.proofs.Common.{inl, inr, ◌≡◌, ◌∙◌, refl, sym, ap, subst, ℕ, zero, suc, ◌+◌, ◌-◌, ◌*◌, ◌/◌, ◌%◌, ◌^◌, ◌<◌, ◌≤◌, Bool, true, false, List, [], ◌∷◌, arith}
+use Rattle.std.proofs.Common.{inl, inr, ◌≡◌, ◌∙◌, refl, sym, ap, subst, ℕ, zero, suc, ◌-◌, ◌*◌, ◌^◌, ◌<◌, ◌≤◌, Bool, true, List, [], ◌∷◌, arith}
 use Rattle.std.specs.Prelude.{bit_and, replicate, ◌==◌, ◌&&◌, ◌||◌}
 use Rattle.std.specs.List.{list_any, list_all}
 use Rattle.std.proofs.lemmas.Bool.{and_parts, cases_Bool, eqb-true}
 use Rattle.std.proofs.lemmas.List.Elements.{All-replicate}
-use Rattle.std.proofs.lemmas.Nat.{and_assoc, and_comm, and_mask}
+use Rattle.std.proofs.lemmas.Nat.{and_assoc, and_mask}
 use Rattle.cp0_regs.specs.Bits.{HasOnly, all_bits}
 use Rattle.cp0_regs.specs.PageMasks.{IsMask, is_mask, page_masks}
-use Rattle.tlb_model.specs.declared.pairs.Pair.{Pair}
 use Rattle.tlb_model.specs.Pairs.{IsPair, ArePairs, hi_bits, lo_bits, stored_pair, global_bit, zero_pair}
 
 -- a number that is one of a list, all of which pass a test, passes it

@@ -2,9 +2,9 @@
 -- Source: MIPS R4000 Microprocessor User's Manual, 2nd edition (Heinrich), chapter 4, the figures and tables of the user,
 -- supervisor and kernel mode segments with addresses of 32 bits; chapter 5 for ERL, under which useg is unmapped and uncached.
 -- Every attribute of kseg0 other than 2 is cached: this project's own.
-use Rattle.std.specs.Prelude.{ℕ, ◌==◌, ◌%◌, ◌^◌, Bool, true, false, not, nat_lt, if◌then◌else◌}
+use Rattle.std.specs.Prelude.{ℕ, ◌==◌, ◌%◌, ◌^◌, Bool, false, not, nat_lt, if◌then◌else◌}
 use Rattle.cp0_regs.specs.declared.mode.Mode.{Mode}
-use Rattle.cp0_regs.specs.declared.mode.Mode.TheVariants.{Kernel, Supervisor, User}
+use Rattle.cp0_regs.specs.declared.mode.Mode.TheVariants.{Kernel, Supervisor}
 use Rattle.tlb_model.specs.declared.segments.Seg.{Seg}
 use Rattle.tlb_model.specs.declared.segments.Seg.TheVariants.{Mapped, Direct, Denied}
 use Rattle.tlb_model.specs.Translation.{IsPlace}

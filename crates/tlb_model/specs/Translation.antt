@@ -4,7 +4,6 @@
 -- index counts is this project's own. Every cache attribute other than 2 is cached.
 use Rattle.std.specs.Prelude.{◌≡◌, ◌<◌, ℕ, ◌==◌, ◌+◌, ◌-◌, ◌*◌, ◌/◌, ◌%◌, ◌^◌, Bool, ◌&&◌, ◌||◌, not, bit_and, bit_xor, if◌then◌else◌, List, Option, Some, None}
 use Rattle.std.specs.List.{find, position_from}
-use Rattle.cp0_regs.specs.Bits.{all_bits}
 use Rattle.tlb_model.specs.declared.pairs.Pair.{Pair}
 use Rattle.tlb_model.specs.declared.translation.Found.{Found}
 use Rattle.tlb_model.specs.declared.translation.Found.TheVariants.{Page, Refill, Invalid, Modified}

@@ -5,7 +5,7 @@ use std::test::Fail;
 use std::{fs, io};
 
 // A writer that takes at most so many bytes at once, and fails at one turn and at one flush. It keeps no byte, and says
-// whether each was the next of the row 0, 1, .. 250, 0, 1, ..
+// whether each was the next of the bytes 0, 1, .. 250, 0, 1, ..
 #[derive(Drop)]
 struct Witness {
     count: usize,

@@ -1,4 +1,4 @@
-use Rattle.std.proofs.Common.{◌≡◌, ◌∙◌, ap}
+use Rattle.std.proofs.Common.{◌∙◌, ap}
 use Rattle.mips3_exec.specs.Talk.{Held}
 use Rattle.mips3_exec.proofs.Talks.{tick_is}
 use Rattle.mips3_exec.proofs.ticking.talk.Goals as goal

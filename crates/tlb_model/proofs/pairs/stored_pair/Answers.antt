@@ -1,4 +1,3 @@
-use Rattle.std.proofs.Common.{◌≡◌}
 use Rattle.tlb_model.proofs.Storable.{stored_is_pair}
 use Rattle.tlb_model.proofs.pairs.stored_pair.Goals as goal
 
