@@ -95,7 +95,11 @@ fn pair_at(arguments: &str, index: usize) -> Option<Pair>
         0 | 0x6000 | 0x1_e000 | 0x7_e000 | 0x1f_e000 | 0x7f_e000 | 0x1ff_e000
     );
     let fits = hi & 0xffff_e0ff == hi && lo0 & 0x3fff_ffff == lo0 && lo1 & 0x3fff_ffff == lo1;
-    if is_mask && fits { Some(stored_pair(mask, hi, lo0, lo1)) } else { None }
+    if is_mask && fits {
+        Some(stored_pair(mask, hi, lo0, lo1))
+    } else {
+        None
+    }
 }
 
 // The pairs after a case's writes, which follow its first part.
