@@ -1,6 +1,6 @@
 //! What the first pair that matches an address has for it.
 
-ghost use Rattle.std.specs.Prelude.{◌≡◌, ◌<◌, ◌≤◌, ◌^◌, length, IfSome};
+ghost use Rattle.std.specs.Prelude.{◌≡◌, ◌<◌, ◌≤◌, ◌%◌, ◌^◌, length, IfSome};
 ghost use Rattle.tlb_model.specs.Pairs.{IsPair, ArePairs};
 ghost use Rattle.tlb_model.specs.Translation as law;
 ghost use Rattle.tlb_model.specs.Translation.{IsFound};
@@ -39,14 +39,25 @@ fn is_match(pair: &Pair, va: u32, asid: u8) -> bool
     (va ^ pair.hi) & (0xffff_e000 - pair.mask) == 0 && is_in_space(pair, asid)
 }
 
+// The place of a number in a page of the pair.
+#[tactic(auto, using(crate::proofs::PageSizes::offset_is))]
+fn offset_in(pair: Pair, number: u64) -> u64
+    requires pair { IsPair pair }
+    ensures offset { result ≡ number % law.page_size pair }
+    ensures within { result ≤ number }
+{
+    number & ((u64::from(pair.mask) + 0x2000) / 2 - 1)
+}
+
 // What the pair has for an access.
+#[tactic(auto, using(crate::proofs::PageSizes::start_is, crate::proofs::PageSizes::odd_is))]
 fn found_in(pair: Pair, va: u32, write: bool) -> Found
     requires pair { IsPair pair }
     ensures page { result ≡ law.found_in pair va write (law.page_of pair va) }
     ensures place { IsFound va result }
 {
-    let size = (u64::from(pair.mask) + 0x2000) / 2;
-    let odd = u64::from(va) / size % 2 == 1;
+    // The odd page follows the even one.
+    let odd = va & (pair.mask + 0x1fff) >= (pair.mask + 0x2000) / 2;
     let lo = if odd { pair.lo1 } else { pair.lo0 };
     let valid = lo / 2 % 2 == 1;
     let dirty = lo / 4 % 2 == 1;
@@ -57,7 +68,7 @@ fn found_in(pair: Pair, va: u32, write: bool) -> Found
     } else {
         let frame = u64::from(lo / 64 % 0x100_0000) * 4096;
         Found::Page {
-            pa: frame / size * size + u64::from(va) % size,
+            pa: frame - offset_in(pair, frame) + offset_in(pair, u64::from(va)),
             cached: lo / 8 % 8 != 2,
         }
     }
