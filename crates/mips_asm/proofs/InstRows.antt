@@ -1,5 +1,5 @@
 -- An instruction whose fields have the widths of its row can be coded with any number that its target needs.
-use Rattle.std.proofs.Common.{◌≡◌, ◌<◌, ◌≤◌, ◌^◌, ℕ, List, [], ◌∷◌, length, slice_index_or, ap, sym, subst, arith}
+use Rattle.std.proofs.Common.{◌≡◌, ◌<◌, ◌^◌, ℕ, [], ◌∷◌, ap, sym, subst, arith}
 use Rattle.mips3_table.specs.declared.instruction.Inst.{Inst}
 use Rattle.mips3_table.specs.declared.operand_forms.Form.{Form}
 use Rattle.mips3_table.specs.declared.operand_forms.Form.TheVariants as form
@@ -7,8 +7,7 @@ use Rattle.mips3_table.specs.declared.operand_forms.Widths.{Widths}
 use Rattle.mips3_table.specs.Operands.{widths_of}
 use Rattle.mips3_table.specs.Instructions.{IsInst, FitsWidths, widths_at}
 use Rattle.mips3_table.specs.Rows.{rows, row_at}
-use Rattle.mips_text.specs.declared.operand.Operand.{Operand}
-use Rattle.mips_text.specs.declared.operand.Operand.TheVariants.{BranchTarget, JumpTarget}
+use Rattle.mips_text.specs.declared.operand.Operand.TheVariants.{BranchTarget}
 use Rattle.mips_text.specs.Forms.{operands_of}
 use Rattle.mips_asm.specs.Shown.{IsSoundBy}
 use Rattle.mips_text.specs.Line.{bare, beq_row}

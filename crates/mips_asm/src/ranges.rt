@@ -28,9 +28,7 @@ fn contains(range: Range, number: i64) -> bool
             let half = power(width - 1);
             -half <= number && number <= half - 1
         }
-        Range::EitherSign(width) => {
-            -power(width - 1) <= number && number <= power(width) - 1
-        }
+        Range::EitherSign(width) => { -power(width - 1) <= number && number <= power(width) - 1 }
     }
 }
 

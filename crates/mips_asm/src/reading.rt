@@ -21,11 +21,7 @@ pub type Tokens = ArrayVec<Token, 64>;
 
 /// The tokens that a statement expects, or the first reason for which these are not such.
 #[tactic(auto, unfolding(mips_text::specs::Line::operands_fault))]
-fn matched(
-    line: &[u8],
-    statement: Statement,
-    operands: &[Token],
-) -> Result<ExpectedTokens, AsmWhy>
+fn matched(line: &[u8], statement: Statement, operands: &[Token]) -> Result<ExpectedTokens, AsmWhy>
     requires few { length operands.now < 64 }
     requires row { IsStatement statement }
     requires within { All (IsWithin (length line.now)) operands.now }

@@ -1,7 +1,6 @@
 -- The number by which a branch or a jump reaches a target is the one that there is.
-use Rattle.std.proofs.Common.{◌≡◌, ◌<◌, ◌^◌, ◌==◌, ℕ, zero, suc, Bool, true, false, if◌then◌else◌, Option, Some, None, IsNone, ◌↔◌, refl, ap, sym, ◌∙◌, arith, eqb-true, eq-eqb}
+use Rattle.std.proofs.Common.{◌≡◌, ◌<◌, ◌^◌, ◌==◌, ℕ, Bool, true, false, if◌then◌else◌, Option, Some, None, IsNone, ◌↔◌, refl, ap, sym, arith, eqb-true, eq-eqb}
 use Rattle.std.proofs.lemmas.Bool.{both_ways}
-use Rattle.std.proofs.lemmas.Grind.{common_steps}
 use Rattle.mips3_code.specs.Targets.{branch_target, jump_target, IsBranchDistance, IsJumpNumber}
 use Rattle.mips3_code.proofs.Reach.{words_between, word_within, one_branch_distance, one_jump_number, branch_misses, jump_misses}
 use Rattle.mips_text.specs.Least.{least}

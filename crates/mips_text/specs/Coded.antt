@@ -1,7 +1,7 @@
 -- The bytes that a statement puts at an address, or the reason for which it has none.
 -- Source: MIPS R4000 Microprocessor User's Manual, 2nd edition (Heinrich), appendix A, for the targets of branches and
 -- jumps; the further statements and the directives are this project's own.
-use Rattle.std.specs.Prelude.{ℕ, zero, suc, Bool, ◌-◌, ◌/◌, ◌%◌, ◌^◌, ◌==◌, if◌then◌else◌, List, [], ◌∷◌, ◌++◌, Option, Some, None, bytes_eq}
+use Rattle.std.specs.Prelude.{ℕ, Bool, ◌-◌, ◌/◌, ◌%◌, ◌^◌, ◌==◌, if◌then◌else◌, List, [], ◌∷◌, ◌++◌, Option, Some, None, bytes_eq}
 use Rattle.flat_ram.specs.Bytes.{bytes_of, zeros_of}
 use Rattle.mips3_table.specs.declared.instruction.Inst.{Inst}
 use Rattle.mips3_code.specs.Coding.{encoded}

@@ -16,8 +16,8 @@ pub returns-in_ok-with_operands-in-Move-clause-sound : goal.returns-in_ok-with_o
 returns-in_ok-with_operands-in-Move-clause-sound c =
     let expects = c.requires.expected ∙ ap (λ statement. tokens_expected (shape_of statement) (length c.args.operands.now)) c.in-Move.is in
     let named : inst_of c.args.line.now or_row Move c.args.operands.now ≡ with_operands c.args.line.now c.args.expected.now c.args.operands.now (bare or_row) =
-        ap (λ expected. with_operands c.args.line.now expected c.args.operands.now (bare or_row)) (sym expects) in
+    ap (λ expected. with_operands c.args.line.now expected c.args.operands.now (bare or_row)) (sym expects) in
     let read : with_operands c.args.line.now c.args.expected.now c.args.operands.now (bare or_row) ≡ with_operands c.args.line.now c.args.expected.now c.args.operands.now c.bare.result =
-        ap (with_operands c.args.line.now c.args.expected.now c.args.operands.now) (sym c.bare.ensures) in
+    ap (with_operands c.args.line.now c.args.expected.now c.args.operands.now) (sym c.bare.ensures) in
     sound_of_move c.args.line.now c.args.operands.now c.in_ok-with_operands-in-Move.field-0
     (named ∙ read ∙ sym c.with_operands.ensures ∙ c.in_ok-with_operands-in-Move.was)
