@@ -14,7 +14,7 @@ pub mod map;
 pub mod memory;
 pub mod unmapped;
 
-pub use big_endian::{half_at, word_at};
+pub use big_endian::{half_at, number_at, word_at};
 pub use map::{DEVICE_BASE, DEVICE_SIZE, PROM_BASE, PROM_SIZE, RAM_SIZE, Spot, where_is};
-pub use memory::{Prom, Ram};
+pub use memory::{Prom, Ram, put_bytes, put_number, put_zeros};
 pub use unmapped::{is_unmapped, physical};

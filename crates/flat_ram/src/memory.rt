@@ -71,16 +71,17 @@ fn zeros(alloc: Global, count: usize) -> Result<Vec<u8>, AllocError>
     Ok(vec![in alloc; 0; count]?)
 }
 
-fn put_bytes(all: &mut [u8], at: usize, bytes: &[u8])
+/// Replaces the bytes from a place on by these.
+pub fn put_bytes(all: &mut [u8], at: usize, bytes: &[u8])
     requires { at + length bytes.now ≤ length all.old }
     ensures { all.new ≡ law.put_bytes all.old at bytes.now }
 {
     all[at..at + bytes.len()].copy_from_slice(bytes);
 }
 
-// Replaces up to eight bytes by the low bytes of a number.
+/// Replaces up to eight bytes from a place on by the low bytes of a number, the high one first.
 #[tactic(auto, using(crate::proofs::Numbers::low_bytes, crate::proofs::Numbers::length_bytes))]
-fn put_number(all: &mut [u8], at: usize, count: usize, number: u64)
+pub fn put_number(all: &mut [u8], at: usize, count: usize, number: u64)
     requires most { count ≤ 8 }
     requires room { at + count ≤ length all.old }
     ensures { all.new ≡ law.put_bytes all.old at (bytes_high_first count number) }
@@ -88,8 +89,9 @@ fn put_number(all: &mut [u8], at: usize, count: usize, number: u64)
     put_bytes(all, at, &number.to_be_bytes()[8 - count..]);
 }
 
+/// Replaces so many bytes from a place on by zeros.
 #[tactic(auto, unfolding(crate::specs::Bytes::zeros_of))]
-fn put_zeros(all: &mut [u8], at: usize, count: usize)
+pub fn put_zeros(all: &mut [u8], at: usize, count: usize)
     requires { at + count ≤ length all.old }
     ensures { all.new ≡ law.put_bytes all.old at (law.zeros_of count) }
 {
@@ -182,6 +184,14 @@ impl Ram {
         ensures { self.new ≡ law.put_bytes self.old pa (bytes_high_first size number) }
     {
         put_number(&mut self.bytes, pa as usize, size as usize, number);
+    }
+
+    /// Replaces the bytes from an address on by these.
+    pub fn set_bytes(&mut self, pa: u64, bytes: &[u8])
+        requires { pa + length bytes.now ≤ ram_size }
+        ensures { self.new ≡ law.put_bytes self.old pa bytes.now }
+    {
+        put_bytes(&mut self.bytes, pa as usize, bytes);
     }
 
     /// Replaces so many bytes from an address on: by the bytes given, and then by zeros.

@@ -17,9 +17,9 @@ use Rattle.mips3_exec.specs.declared.routes.Route.{Route}
 use Rattle.mips3_exec.specs.declared.routes.Route.TheVariants.{To, Fault}
 use Rattle.mips3_exec.specs.declared.references.Reference.{Reference}
 use Rattle.mips3_exec.specs.declared.talk.Access.{Access}
-use Rattle.mips3_exec.specs.declared.talk.StepEnd.TheVariants.{Went, Trapped, Lacks}
+use Rattle.mips3_exec.specs.declared.talk.StepEnd.TheVariants.{Went, Trapped}
 use Rattle.mips3_exec.specs.declared.talk.Reply.{Reply}
-use Rattle.mips3_exec.specs.declared.talk.Reply.TheVariants.{Value, Stored, Halt, Tag, Coherency, Missing}
+use Rattle.mips3_exec.specs.declared.talk.Reply.TheVariants.{Value, Stored, Halt, Tag, Coherency}
 use Rattle.mips3_exec.specs.declared.talk.Request.TheVariants as request
 use Rattle.mips3_exec.specs.Accesses.{is_aligned}
 use Rattle.mips3_exec.specs.Effects.{operation_of, loaded_of, stored_of}
@@ -46,7 +46,6 @@ unfoldable pub loaded : Cpu → Inst → Reference → ℕ → Reply → Talk
 loaded cpu inst r pa (Value bytes) =
     went (with_result (linked cpu r.kind pa) r.reg (loaded_of inst (register cpu.regs r.reg) r.va bytes))
 loaded cpu inst r pa Coherency = trapped cpu (at_address 31 r.va)
-loaded cpu inst r pa Missing = Done cpu Lacks
 loaded cpu inst r pa _ = trapped cpu (plain 7)
 
 abbrev pub load_from : Cpu → Inst → Reference → Access → Talk
@@ -74,7 +73,6 @@ unfoldable pub stored : Cpu → Reference → Reply → Talk
 stored cpu r Stored = went (advanced (succeeded cpu r.kind r.reg))
 stored cpu r (Halt code) = went (advanced (record (succeeded cpu r.kind r.reg) { halt = Some code }))
 stored cpu r Coherency = trapped cpu (at_address 31 r.va)
-stored cpu r Missing = Done cpu Lacks
 stored cpu r _ = trapped cpu (plain 7)
 
 -- a store conditional without the link
@@ -101,7 +99,6 @@ store cpu inst r =
 -- how a cache operation goes on: TagLo is what it makes of it
 unfoldable pub operated : Cpu → Reply → Talk
 operated cpu (Tag tag) = went (advanced (record cpu { cp0 = with_word cpu.cp0 tag_lo tag }))
-operated cpu Missing = Done cpu Lacks
 operated cpu _ = trapped cpu (plain 7)
 
 abbrev pub operate_by : Cpu → Reference → Route → Talk

@@ -17,9 +17,8 @@ use Rattle.mips3_exec.specs.declared.effects.Effect.{Effect}
 use Rattle.mips3_exec.specs.declared.effects.Effect.TheVariants.{Nothing, Set, HiLo, Jump, Touch, System, Raise}
 use Rattle.mips3_exec.specs.declared.routes.Route.{Route}
 use Rattle.mips3_exec.specs.declared.routes.Route.TheVariants.{To, Fault}
-use Rattle.mips3_exec.specs.declared.talk.StepEnd.TheVariants.{Lacks}
 use Rattle.mips3_exec.specs.declared.talk.Reply.{Reply}
-use Rattle.mips3_exec.specs.declared.talk.Reply.TheVariants.{Value, Coherency, Missing}
+use Rattle.mips3_exec.specs.declared.talk.Reply.TheVariants.{Value, Coherency}
 use Rattle.mips3_exec.specs.declared.talk.Request.TheVariants as request
 use Rattle.mips3_exec.specs.Effects.{operation_of, effect_of}
 use Rattle.mips3_exec.specs.Processor.{advanced, with_result, branched}
@@ -71,7 +70,6 @@ carry_out cpu code = carry_out_found cpu (decoded code)
 abbrev pub fetched : Cpu → Reply → Talk
 fetched cpu (Value code) = carry_out cpu code
 fetched cpu Coherency = trapped cpu (at_address 14 cpu.pc)
-fetched cpu Missing = Done cpu Lacks
 fetched cpu _ = trapped cpu (plain 6)
 
 abbrev pub fetch_by : Cpu → Route → Talk

@@ -5,7 +5,7 @@ use Rattle.std.specs.Prelude.{ℕ, Bool, true, false, Option, Some, None}
 use Rattle.cp0_regs.specs.Counting.{with_lines}
 use Rattle.mips3_exec.specs.declared.processor.Cpu.{Cpu}
 use Rattle.mips3_exec.specs.declared.talk.StepEnd.{StepEnd}
-use Rattle.mips3_exec.specs.declared.talk.StepEnd.TheVariants.{Went, WroteWired, Trapped, Lacks}
+use Rattle.mips3_exec.specs.declared.talk.StepEnd.TheVariants.{Went, WroteWired, Trapped}
 use Rattle.mips3_exec.specs.declared.talk.Reply.{Reply}
 use Rattle.mips3_exec.specs.declared.talk.Reply.TheVariants as reply
 use Rattle.mips3_exec.specs.declared.talk.Request.{Request}
@@ -30,24 +30,13 @@ abbrev pub wrote_wired : StepEnd → Bool
 wrote_wired WroteWired = true
 wrote_wired _ = false
 
--- the lines as the step left them, and the counts of CP0; what is not built stops the tick
-abbrev pub counting : Cpu → StepEnd → Talk
-counting cpu end = Ask Levels (λ levels. Done (counted (with_levels cpu levels) (wrote_wired end)) end)
-
+-- the lines as the step left them, and the counts of CP0
 abbrev pub closed : Cpu → StepEnd → Talk
-closed cpu Lacks = Done cpu Lacks
-closed cpu Went = counting cpu Went
-closed cpu WroteWired = counting cpu WroteWired
-closed cpu (Trapped code) = counting cpu (Trapped code)
+closed cpu end = Ask Levels (λ levels. Done (counted (with_levels cpu levels) (wrote_wired end)) end)
 
 -- the tick of a machine that has not halted
 unfoldable pub tick_talk : Cpu → Talk
 tick_talk cpu = and_then (opened cpu) closed
-
--- the tick was made
-abbrev pub is_made : StepEnd → Bool
-is_made Lacks = false
-is_made _ = true
 
 -- what a tick comes to
 pub record Ticked (M : Type 0) : Type 0 where
@@ -58,7 +47,6 @@ pub record Ticked (M : Type 0) : Type 0 where
 -- the answer: the code of an exception or an interrupt that was taken, or that the run has ended with this tick
 abbrev pub answer_of : StepEnd → Option ℕ → Tick
 answer_of (Trapped code) halt = tick.Trapped code
-answer_of Lacks halt = tick.Unbuilt
 answer_of _ (Some code) = tick.Halted code
 answer_of _ None = tick.Ran
 
@@ -67,7 +55,6 @@ abbrev pub goes_on : Tick → Bool
 goes_on tick.Ran = true
 goes_on (tick.Trapped code) = true
 goes_on (tick.Halted code) = false
-goes_on tick.Unbuilt = false
 
 -- what a talk of a tick comes to, as a tick
 abbrev pub ticked : {M : Type 0} → Held M → Ticked M

@@ -88,7 +88,6 @@ fn load_from<M: MemorySystem>(
             StepEnd::Went
         }
         Reply::Coherency => trap(cpu, at_address(COHERENCY_DATA, r.va)),
-        Reply::Missing => StepEnd::Lacks,
         _ => trap(cpu, plain(BUS_DATA)),
     }
 }
@@ -183,7 +182,6 @@ fn store_to<M: MemorySystem>(
             succeed(cpu, r)
         }
         Reply::Coherency => trap(cpu, at_address(COHERENCY_DATA, r.va)),
-        Reply::Missing => StepEnd::Lacks,
         _ => trap(cpu, plain(BUS_DATA)),
     }
 }
@@ -242,7 +240,6 @@ fn operate<M: MemorySystem>(cpu: &mut Cpu, memory: &mut M, r: Reference) -> Step
                     cpu.advance();
                     StepEnd::Went
                 }
-                Reply::Missing => StepEnd::Lacks,
                 _ => trap(cpu, plain(BUS_DATA)),
             }
         }

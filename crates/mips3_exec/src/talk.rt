@@ -68,8 +68,6 @@ pub enum Reply {
     BusError,
     /// A coherency exception.
     Coherency,
-    /// This access is not built yet.
-    Missing,
 }
 
 /// How a step ended.
@@ -81,8 +79,6 @@ pub enum StepEnd {
     WroteWired,
     /// An exception or an interrupt was taken, with this code of Cause.
     Trapped(u8),
-    /// It met an access that is not built yet.
-    Lacks,
 }
 
 /// A memory system, by what it does at a request.

@@ -19,8 +19,6 @@ pub enum Tick {
     Trapped(u8),
     /// The run has ended, with this halt code.
     Halted(u32),
-    /// It met an access that is not built yet, and was not made.
-    Unbuilt,
 }
 
 // Cause shows the levels of the lines.
@@ -57,16 +55,13 @@ fn wrote_wired(end: StepEnd) -> bool
     }
 }
 
-// The lines and the counts, unless the step met what is not built.
+// The lines and the counts.
 fn close<M: MemorySystem>(cpu: &mut Cpu, memory: &mut M, end: StepEnd)
     requires { cpu.old.ticks < 4294967295 }
     ensures cpu { cpu.new ≡ (hold M.ask_gives memory.old (law.closed cpu.old end)).cpu }
     ensures memory { memory.new ≡ (hold M.ask_gives memory.old (law.closed cpu.old end)).memory }
     ensures end { end ≡ (hold M.ask_gives memory.old (law.closed cpu.old end)).end }
 {
-    if let StepEnd::Lacks = end {
-        return;
-    }
     ask_levels(cpu, memory);
     cpu.count(wrote_wired(end));
 }
@@ -78,7 +73,7 @@ fn talk<M: MemorySystem>(cpu: &mut Cpu, memory: &mut M) -> StepEnd
     ensures end { result ≡ (hold M.ask_gives memory.old (law.tick_talk cpu.old)).end }
     ensures cpu { cpu.new ≡ (hold M.ask_gives memory.old (law.tick_talk cpu.old)).cpu }
     ensures memory { memory.new ≡ (hold M.ask_gives memory.old (law.tick_talk cpu.old)).memory }
-    ensures ticks { law.is_made result ≡ true → cpu.new.ticks ≡ cpu.old.ticks + 1 }
+    ensures ticks { cpu.new.ticks ≡ cpu.old.ticks + 1 }
 {
     let end = open(cpu, memory);
     close(cpu, memory, end);
@@ -101,7 +96,6 @@ pub fn make_tick<M: MemorySystem>(cpu: &mut Cpu, memory: &mut M) -> Tick
     }
     match talk(cpu, memory) {
         StepEnd::Trapped(code) => Tick::Trapped(code),
-        StepEnd::Lacks => Tick::Unbuilt,
         StepEnd::Went | StepEnd::WroteWired => match cpu.halt {
             Some(code) => Tick::Halted(code),
             None => Tick::Ran,

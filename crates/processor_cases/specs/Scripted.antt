@@ -7,7 +7,7 @@ use Rattle.mips3_exec.specs.declared.talk.Reply.{Reply}
 use Rattle.mips3_exec.specs.declared.talk.Reply.TheVariants as reply
 use Rattle.mips3_exec.specs.Talk.{Outcome}
 use Rattle.processor_cases.specs.declared.scripted.Manner.{Manner}
-use Rattle.processor_cases.specs.declared.scripted.Manner.TheVariants.{Serves, Refuses, Surprises, Lacks, Ends}
+use Rattle.processor_cases.specs.declared.scripted.Manner.TheVariants.{Serves, Refuses, Surprises, Ends}
 use Rattle.processor_cases.specs.declared.scripted.Scripted.{Scripted}
 
 -- a reply in a manner: the one of a memory that serves, or another in its place
@@ -15,7 +15,6 @@ abbrev pub in_manner : Manner → Reply → Reply
 in_manner Serves answer = answer
 in_manner Refuses answer = reply.BusError
 in_manner Surprises answer = reply.Coherency
-in_manner Lacks answer = reply.Missing
 in_manner (Ends code) answer = reply.Halt code
 
 -- what is known of a reply to a fetch, and of one to a load of so many bytes

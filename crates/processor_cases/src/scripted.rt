@@ -16,8 +16,6 @@ pub enum Manner {
     Refuses,
     /// With a coherency exception.
     Surprises,
-    /// With an access that is not built.
-    Lacks,
     /// With the end of the run, by this halt code.
     Ends(u32),
 }
@@ -67,7 +65,6 @@ impl Scripted {
             Manner::Serves => Reply::Value(u64::from(self.word)),
             Manner::Refuses => Reply::BusError,
             Manner::Surprises => Reply::Coherency,
-            Manner::Lacks => Reply::Missing,
             Manner::Ends(code) => Reply::Halt(code),
         }
     }
@@ -83,7 +80,6 @@ impl Scripted {
             Manner::Serves => Reply::Value(low_bytes(self.bytes, size)),
             Manner::Refuses => Reply::BusError,
             Manner::Surprises => Reply::Coherency,
-            Manner::Lacks => Reply::Missing,
             Manner::Ends(code) => Reply::Halt(code),
         }
     }
@@ -96,7 +92,6 @@ impl Scripted {
             Manner::Serves => answer,
             Manner::Refuses => Reply::BusError,
             Manner::Surprises => Reply::Coherency,
-            Manner::Lacks => Reply::Missing,
             Manner::Ends(code) => Reply::Halt(code),
         }
     }

@@ -7,9 +7,9 @@
 //!   writes it; `pc` makes npc the next word. `count` ends so many ticks without a step, for Random and Count.
 //! - `pairN=MASK/HI/LO0/LO1` stores a pair of the TLB, as TLBWI does with these in the registers.
 //! - Memory has the same replies at every address: `word` to a fetch, `bytes` to a load, and the levels `lines` of IP2 to IP6.
-//!   `fetch` and `data` have the manner of the reply: `served`, `bus` (a bus error), `coherency`, `missing` (not built), or `halt`
-//!   with the code 2a. It stands until it is set again.
-//! - The end is `ran`, `trapped CODE`, with the code decimal, `halted CODE` or `unbuilt`. Then come pc, npc where it is not the next
+//!   `fetch` and `data` have the manner of the reply: `served`, `bus` (a bus error), `coherency`, or `halt` with the code 2a. It
+//!   stands until it is set again.
+//! - The end is `ran`, `trapped CODE`, with the code decimal, or `halted CODE`. Then come pc, npc where it is not the next
 //!   word, `slot` and `link` where they are set, and each register and each pair that the tick changed. Count and Random are told
 //!   where the last part has the setting `counters`.
 //! - An access is `F` (fetch), `L`, `S` or `C` (CACHE) with `c` or `u` for cached or not, `q` or `n` for quiet or not, and the physical
@@ -151,7 +151,6 @@ fn manner_of(text: &str) -> Option<Manner> {
         "served" => Some(Manner::Serves),
         "bus" => Some(Manner::Refuses),
         "coherency" => Some(Manner::Surprises),
-        "missing" => Some(Manner::Lacks),
         "halt" => Some(Manner::Ends(0x2a)),
         _ => None,
     }
@@ -277,7 +276,6 @@ fn put_end(end: &Tick, out: &mut String) -> Result<(), AllocError> {
         Tick::Ran => out.push_str("ran"),
         Tick::Trapped(code) => write!(out, "trapped {code}"),
         Tick::Halted(code) => write!(out, "halted {code:08x}"),
-        Tick::Unbuilt => out.push_str("unbuilt"),
     }
 }
 

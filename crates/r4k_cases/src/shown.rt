@@ -35,11 +35,19 @@ fn put_row(bytes: &[u8], out: &mut String) -> Result<(), AllocError> {
     out.push_str("\n")
 }
 
-// Prints a file, in rows of eight words.
+// Prints a file, in rows of eight words; a star stands for the rows that are as the one above them.
 fn put_file(name: &str, bytes: &[u8], out: &mut String) -> Result<(), AllocError> {
     writeln!(out, "| file {name} has {} bytes", bytes.len())?;
+    let mut above: &[u8] = &[];
+    let mut is_starred = false;
     for row in bytes.chunks(32) {
-        put_row(row, out)?;
+        if row != above {
+            put_row(row, out)?;
+        } else if !is_starred {
+            out.push_str("| *\n")?;
+        }
+        is_starred = row == above;
+        above = row;
     }
     Ok(())
 }
@@ -129,10 +137,20 @@ fn put_line(line: &[u8], out: &mut String) -> Result<(), AllocError> {
     }
 }
 
-/// Prints the lines that were written, those that begin so.
-pub fn put_text(text: &[u8], begin: &str, out: &mut String) -> Result<(), AllocError> {
-    for line in text.split_inclusive(|byte| *byte == b'\n') {
+// Whether a line begins as one of these texts, which have commas between them.
+fn begins_so(line: &[u8], begins: &str) -> bool {
+    for begin in begins.split(',') {
         if line.starts_with(begin.as_bytes()) {
+            return true;
+        }
+    }
+    false
+}
+
+/// Prints the lines that were written, those that begin as one of these texts, which have commas between them.
+pub fn put_text(text: &[u8], begins: &str, out: &mut String) -> Result<(), AllocError> {
+    for line in text.split_inclusive(|byte| *byte == b'\n') {
+        if begins_so(line, begins) {
             put_line(line, out)?;
         }
     }

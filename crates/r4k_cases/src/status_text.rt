@@ -2,7 +2,7 @@
 
 use crate::fault::Fault;
 use crate::text::number_of;
-use r4k_top::{AsmWhy, ImageRule, Part, Status};
+use r4k_top::{AsmWhy, Breach, ImageRule, ScriptWhy, Status};
 
 // A number below 2 ^ 32.
 fn short_number(text: &str) -> Result<u32, Fault> {
@@ -40,9 +40,33 @@ fn why_of(text: &str) -> Result<AsmWhy, Fault> {
     }
 }
 
-fn part_of(text: &str) -> Result<Part, Fault> {
+fn script_why_of(text: &str) -> Result<ScriptWhy, Fault> {
     match text {
-        "Access" => Ok(Part::Access),
+        "Line" => Ok(ScriptWhy::Line),
+        "Number" => Ok(ScriptWhy::Number),
+        "Order" => Ok(ScriptWhy::Order),
+        _ => Err(Fault::Unread),
+    }
+}
+
+fn breach_of(text: &str) -> Result<Breach, Fault> {
+    match text {
+        "Forge" => Ok(Breach::Forge),
+        "Peek" => Ok(Breach::Peek),
+        "Unquiet" => Ok(Breach::Unquiet),
+        "Old" => Ok(Breach::Old),
+        "Owed" => Ok(Breach::Owed),
+        "Lost" => Ok(Breach::Lost),
+        _ => Err(Fault::Unread),
+    }
+}
+
+// A status with one field.
+fn with_field(name: &str, field: &str) -> Result<Status, Fault> {
+    match name {
+        "BadTrace" => Ok(Status::BadTrace {
+            line: short_number(field)?,
+        }),
         _ => Err(Fault::Unread),
     }
 }
@@ -50,20 +74,25 @@ fn part_of(text: &str) -> Result<Part, Fault> {
 // A status with two fields.
 fn with_fields(name: &str, first: &str, second: &str) -> Result<Status, Fault> {
     match name {
+        "Breach" => {
+            let event = number_of(first)? as u64;
+            let breach = breach_of(second)?;
+            Ok(Status::Breach { event, breach })
+        }
         "BadImage" => {
             let rule = rule_of(first)?;
             let offset = short_number(second)?;
             Ok(Status::BadImage { rule, offset })
         }
+        "BadScript" => {
+            let line = short_number(first)?;
+            let why = script_why_of(second)?;
+            Ok(Status::BadScript { line, why })
+        }
         "BadSource" => {
             let line = short_number(first)?;
             let why = why_of(second)?;
             Ok(Status::BadSource { line, why })
-        }
-        "Unbuilt" => {
-            let tick = short_number(first)?;
-            let part = part_of(second)?;
-            Ok(Status::Unbuilt { tick, part })
         }
         _ => Err(Fault::Unread),
     }
@@ -89,6 +118,6 @@ pub fn status_of(text: &str) -> Result<Status, Fault> {
     };
     match fields.split_once(' ') {
         Some((first, second)) => with_fields(name, first, second),
-        None => Err(Fault::Unread),
+        None => with_field(name, fields),
     }
 }

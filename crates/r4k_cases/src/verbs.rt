@@ -6,22 +6,25 @@
 //! with the byte; `failing-calls NUMBERS` and `failing-writes NUMBERS` say which calls of the shelf and of the sink, writes
 //! and flushes, fail, counted from 0, and `room NUMBER` how many bytes the sink takes.
 //!
-//! Command lines, whose WORDS have bars between them: `do WORDS` shows the answer and its number, the calls of the shelf,
-//! the files that are changed or new, how many calls failed, whether what was written has not gone out, and the text that
-//! was written, a line behind each angle and the rest of one that was not ended behind a tilde. `part WORDS` shows in place of the text how much was written of what
-//! ports that never fail are given, and `lines BEGIN WORDS` the lines that begin so. `sure WORDS` is carried out over ports
-//! that never fail. The answer alone: `answer WORDS`; `steps NUMBER WORDS` of a run, for at most so many ticks, of the
-//! image of hexadecimal words at a0010000; `cut NAME FIRST LAST WORDS` and `spoil NAME FIRST LAST WORDS`, where the file is
-//! cut to each of these lengths in turn, or its byte at each of these places made greater by one. `asks WORDS` shows how
-//! much of each file the shelf is asked for. `status STATUS` shows the line and the number of a status, and `report STATUS`
-//! the number with which the program ends with it, and what it writes to the sink of the scene before that.
+//! Command lines, whose WORDS have bars between them: `do WORDS` shows the answer and its number, the calls of the shelf, the
+//! files that are changed or new, in which a star stands for rows as the one above them, how many calls failed, whether what
+//! was written has not gone out, and the text that was written, a line behind each angle and the rest of one that was not ended
+//! behind a tilde. `part WORDS` shows in place of the text how much was written of what ports that never fail are given, and
+//! `lines BEGINS WORDS` the lines that begin so; commas stand between several. `sure WORDS` is carried out over ports that
+//! never fail. The answer and such lines: `tells BEGINS WORDS`. The answer alone: `answer WORDS`; `reads SCRIPT` of a run of
+//! the image a for no ticks with this script, of which a bar ends a line; `steps NUMBER WORDS` of a run, for at most so many
+//! ticks, of the image of hexadecimal words at a0010000, and `shows NUMBER BEGINS WORDS` the lines of its report that begin so;
+//! `cut NAME FIRST LAST WORDS` and `spoil NAME FIRST LAST WORDS`, where the file is cut to each of these lengths in turn, or
+//! its byte at each of these places made greater by one. `asks WORDS` shows how much of each file the shelf is asked for.
+//! `status STATUS` shows the line and the number of a status, and `report STATUS` the number with which the program ends with
+//! it, and what it writes to the sink of the scene before that.
 
 use crate::fault::Fault;
 use crate::scene::Scene;
 use crate::seen::{perform, perform_sure, perform_watched};
 use crate::shown::{put_outside, put_part, put_status, put_text};
 use crate::status_text::status_of;
-use crate::text::{image_of, number_of};
+use crate::text::{image_of, lines_of, number_of};
 use r4_ports::SureSink;
 use r4k_top::{Status, report_status};
 use std::alloc::{AllocError, Global};
@@ -30,13 +33,13 @@ use std::alloc::{AllocError, Global};
 fn show(
     alloc: Global,
     scene: &Scene,
-    begin: &str,
+    begins: &str,
     line: &str,
     out: &mut String,
 ) -> Result<(), AllocError> {
     let seen = perform(alloc, scene, line)?;
     put_outside(alloc, scene, &seen, out)?;
-    put_text(seen.sink.bytes(), begin, out)
+    put_text(seen.sink.bytes(), begins, out)
 }
 
 // Shows the answer of a command line.
@@ -48,6 +51,31 @@ fn show_answer(
 ) -> Result<(), AllocError> {
     let seen = perform(alloc, scene, line)?;
     put_status(alloc, &seen.status, out)
+}
+
+// Shows the answer of a command line, and of the text the lines that begin so.
+fn show_told(
+    alloc: Global,
+    scene: &Scene,
+    begins: &str,
+    line: &str,
+    out: &mut String,
+) -> Result<(), AllocError> {
+    let seen = perform(alloc, scene, line)?;
+    put_status(alloc, &seen.status, out)?;
+    put_text(seen.sink.bytes(), begins, out)
+}
+
+// Shows the answer of a run of the image a for no ticks with this script.
+fn show_read(
+    alloc: Global,
+    scene: &mut Scene,
+    script: &str,
+    out: &mut String,
+) -> Result<(), Fault> {
+    let script = lines_of(alloc, script)?;
+    scene.set_file(alloc, "s", script)?;
+    Ok(show_answer(alloc, scene, "run|pc/16|a|s|-|0", out)?)
 }
 
 // Shows what a command line comes to over ports that never fail.
@@ -78,6 +106,13 @@ fn show_part(alloc: Global, scene: &Scene, line: &str, out: &mut String) -> Resu
     show_part_of(alloc, scene, sink.bytes(), line, out)
 }
 
+// Sets a file to the image of these words, and gives the command line of its run.
+fn run_of(alloc: Global, scene: &mut Scene, steps: &str, words: &str) -> Result<String, Fault> {
+    let image = image_of(alloc, 0xa0010000, words)?;
+    scene.set_file(alloc, "a", image)?;
+    Ok(format!(in alloc; "run|pc/16|a|-|-|{steps}")?)
+}
+
 // Shows the answer of a run of the image of these words.
 fn show_steps(
     alloc: Global,
@@ -86,10 +121,22 @@ fn show_steps(
     words: &str,
     out: &mut String,
 ) -> Result<(), Fault> {
-    let image = image_of(alloc, 0xa0010000, words)?;
-    scene.set_file(alloc, "a", image)?;
-    let line = format!(in alloc; "run|pc/16|a|-|-|{steps}")?;
+    let line = run_of(alloc, scene, steps, words)?;
     Ok(show_answer(alloc, scene, line.as_str(), out)?)
+}
+
+// Shows the lines that begin so, of the report of a run of the image of the words behind them.
+fn show_lines(
+    alloc: Global,
+    scene: &mut Scene,
+    steps: &str,
+    text: &str,
+    out: &mut String,
+) -> Result<(), Fault> {
+    let (begins, words) = cut_word(text)?;
+    let line = run_of(alloc, scene, steps, words)?;
+    let seen = perform(alloc, scene, line.as_str())?;
+    Ok(put_text(seen.sink.bytes(), begins, out)?)
 }
 
 // Shows how much of each file the shelf is asked for.
@@ -216,7 +263,9 @@ fn carry_out_with(
     let (first, second) = rest.split_once(' ').unwrap_or((rest, ""));
     match verb {
         "lines" => Ok(show(alloc, scene, first, second, out)?),
+        "tells" => Ok(show_told(alloc, scene, first, second, out)?),
         "steps" => show_steps(alloc, scene, first, second, out),
+        "shows" => show_lines(alloc, scene, first, second, out),
         "cut" => show_changes(alloc, scene, Change::Cut, rest, out),
         "spoil" => show_changes(alloc, scene, Change::Spoil, rest, out),
         _ => scene.set(alloc, verb, rest),
@@ -238,6 +287,7 @@ pub fn carry_out(
         "part" => show_part(alloc, scene, rest, out)?,
         "sure" => show_sure(alloc, scene, rest, out)?,
         "answer" => show_answer(alloc, scene, rest, out)?,
+        "reads" => show_read(alloc, scene, rest, out)?,
         "asks" => show_asked(alloc, scene, rest, out)?,
         "status" => put_status(alloc, &status_of(rest)?, out)?,
         "report" => show_report(alloc, scene, &status_of(rest)?, out)?,

@@ -1,3 +1,4 @@
-pub mod Reading
 pub mod Delivery
 pub mod Headline
+pub mod Reading
+pub mod Trials

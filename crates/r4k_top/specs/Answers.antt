@@ -2,7 +2,9 @@
 use Rattle.std.specs.Prelude.{List, ℕ, Option, Some, None}
 use Rattle.r4k_top.specs.declared.statuses.Status.{Status}
 use Rattle.r4k_top.specs.declared.statuses.Status.TheVariants as status
-use Rattle.r4k_top.specs.Wanted.{Refusal, NoCommand, TooLong, Broken, Refused, Stops}
+use Rattle.access_trace.specs.declared.event.Verdict.{Verdict}
+use Rattle.access_trace.specs.declared.event.Verdict.TheVariants as verdict
+use Rattle.r4k_top.specs.Wanted.{Refusal, NoCommand, TooLong, Broken, Unreadable, Unparsed, Refused}
 use Rattle.r4k_top.specs.Outcome.{End, Makes, Refuses}
 
 -- the status of a refusal
@@ -10,12 +12,19 @@ abbrev pub status_of_refusal : Refusal → Status
 status_of_refusal NoCommand = status.Usage
 status_of_refusal TooLong = status.TooLong
 status_of_refusal (Broken fault) = status.BadImage fault.rule fault.offset
+status_of_refusal (Unreadable line reason) = status.BadScript line reason
+status_of_refusal (Unparsed line) = status.BadTrace line
 status_of_refusal (Refused line reason) = status.BadSource line reason
-status_of_refusal (Stops tick part) = status.Unbuilt tick part
+
+-- the status with which a job is complete: Breach where its verdict is no
+abbrev pub status_of_verdict : Option Verdict → Status
+status_of_verdict None = status.Done
+status_of_verdict (Some verdict.Yes) = status.Done
+status_of_verdict (Some (verdict.No event breach)) = status.Breach event breach
 
 -- the status of an end
 abbrev pub status_of : End → Status
-status_of (Makes made) = status.Done
+status_of (Makes made) = status_of_verdict made.verdict
 status_of (Refuses refusal) = status_of_refusal refusal
 
 -- Which answers may come: Memory is free, ReadFault and WriteFault have a cause outside, and of every other answer the
@@ -26,9 +35,16 @@ MayAnswer unread unwritten ends status.ReadFault = unread
 MayAnswer unread unwritten ends status.WriteFault = unwritten
 MayAnswer unread unwritten ends answer = ends answer
 
+-- the answers of a job that is complete
+abbrev pub IsComplete : Status → Type 0
+IsComplete status.Done = Unit {0}
+IsComplete (status.Breach event breach) = Unit {0}
+IsComplete answer = ⊥
+
 -- the answers that refuse what the words ask for
 abbrev pub IsRefusal : Status → Type 0
 IsRefusal status.Done = ⊥
+IsRefusal (status.Breach event breach) = ⊥
 IsRefusal status.ReadFault = ⊥
 IsRefusal status.WriteFault = ⊥
 IsRefusal status.Memory = ⊥
@@ -37,6 +53,7 @@ IsRefusal answer = Unit {0}
 -- the answers that come before anything is written or put
 abbrev pub IsEarly : Status → Type 0
 IsEarly status.Done = ⊥
+IsEarly (status.Breach event breach) = ⊥
 IsEarly status.WriteFault = ⊥
 IsEarly answer = Unit {0}
 

@@ -1,15 +1,48 @@
 -- What a job made, as the program holds it.
-use Rattle.std.specs.Prelude.{[], Some, None}
+use Rattle.std.specs.Prelude.{ℕ, List, [], Option, Some, None, String, string_bytes}
+use Rattle.std.specs.declared.alloc.Global.{Global}
 use Rattle.image_listing.specs.Listing.{listing_of}
 use Rattle.machine_core.specs.Shown.{shown_of}
 use Rattle.run_report.specs.Report.{report_of}
+use Rattle.access_trace.specs.Traces.{trace_text}
+use Rattle.machine_core.specs.Run.{run_of}
+use Rattle.machine_core.specs.Traced.{machine_in}
+use Rattle.checked_run.specs.declared.trial.Trial.{Trial}
+use Rattle.checked_run.specs.Trials.{events_in, standing_after}
+use Rattle.r4k_top.specs.declared.product.FileMade.{FileMade}
+use Rattle.r4k_top.specs.declared.product.Finished.{Finished}
+use Rattle.r4k_top.specs.declared.product.Finished.TheVariants as finished
 use Rattle.r4k_top.specs.declared.product.Product.{Product}
 use Rattle.r4k_top.specs.declared.product.Product.TheVariants as product
-use Rattle.r4k_top.specs.Outcome.{Made}
+use Rattle.r4k_top.specs.Outcome.{File, Made, named_file, checked, judged}
 
--- what a job made
+-- the name of a file, where there is one
+abbrev pub out_shown : Option (String Global) → Option (List ℕ)
+out_shown None = None
+out_shown (Some name) = Some (string_bytes name)
+
+-- a file as the program holds it
+abbrev pub file_shown : Option FileMade → Option File
+file_shown None = None
+file_shown (Some file) = Some (record { name = file.name.now; bytes = file.bytes.now })
+
+-- what a run that is still to be made and traced comes to
+abbrev pub traced_shown : Option (List ℕ) → ℕ → Trial → Made
+traced_shown out steps trial =
+    checked out (trace_text (events_in steps trial)) (standing_after trial (events_in steps trial)).first
+    (run_of steps (machine_in trial.machine)).machine
+
+-- what is made already
+abbrev pub finished_shown : Finished → Made
+finished_shown (finished.Report machine out) =
+    record { verdict = None; text = report_of (shown_of machine); file = named_file (out_shown out) (shown_of machine).disk }
+finished_shown (finished.Checked trial out) = checked (out_shown out) [] trial.judge.first (machine_in trial.machine)
+finished_shown (finished.Judged judge) = judged judge.first
+finished_shown (finished.Listing image) = record { verdict = None; text = listing_of image; file = None }
+finished_shown (finished.File name bytes) =
+    record { verdict = None; text = []; file = Some (record { name = name.now; bytes = bytes.items }) }
+
+-- what a job makes
 abbrev pub made_shown : Product → Made
-made_shown (product.Report machine) = record { text = report_of (shown_of machine); file = None }
-made_shown (product.Listing image) = record { text = listing_of image; file = None }
-made_shown (product.File name bytes) =
-    record { text = []; file = Some (record { name = name.now; bytes = bytes.items }) }
+made_shown (product.Finished finished) = finished_shown finished
+made_shown (product.Traced run out) = traced_shown (out_shown out) run.steps run.trial

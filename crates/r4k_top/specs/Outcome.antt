@@ -1,21 +1,31 @@
 -- What the words come to, as a function of the bytes that stand under each name: how many of the files are fetched, and
 -- what is made of them, or why nothing is. What stands after an answer is said of it once for all commands.
-use Rattle.std.specs.Prelude.{ℕ, List, [], ◌∷◌, Option, Some, None}
+use Rattle.std.specs.Prelude.{ℕ, List, [], ◌∷◌, ◌++◌, Option, Some, None, Result, Ok, Err}
 use Rattle.elf_image.specs.Written.{image_of}
 use Rattle.mips_asm.specs.Assembly.{Assembly, Image, Bad, assembled}
 use Rattle.image_listing.specs.Listing.{listing_of}
+use Rattle.r4_shape.specs.Numbers.{Numbers}
 use Rattle.machine_core.specs.declared.machine_state.Machine.{Machine}
-use Rattle.mips3_exec.specs.declared.ticking.Tick.{Tick}
-use Rattle.mips3_exec.specs.declared.ticking.Tick.TheVariants.{Ran, Trapped, Halted, Unbuilt}
 use Rattle.machine_core.specs.Machine.{Reached, reset_of}
 use Rattle.machine_core.specs.Run.{run_of}
 use Rattle.machine_core.specs.Shown.{shown_of}
+use Rattle.machine_core.specs.Traced.{run_events}
+use Rattle.access_trace.specs.declared.event.Event.{Event}
+use Rattle.access_trace.specs.declared.event.Verdict.{Verdict}
+use Rattle.access_trace.specs.Traces.{trace_of, trace_text}
+use Rattle.trace_check.specs.declared.found.Found.{Found}
+use Rattle.trace_check.specs.Verdicts.{standing_of, verdict_by, event_by}
+use Rattle.checked_run.specs.Trials.{checked_text}
+use Rattle.run_report.specs.Verdict.{verdict_text}
+use Rattle.input_script.specs.declared.inputs.Input.{Input}
+use Rattle.input_script.specs.Grammar as script
 use Rattle.run_report.specs.Report.{report_of}
 use Rattle.r4_ports.specs.Told.{Call, fetch_of}
 use Rattle.r4k_top.specs.BootProm.{boot_prom}
-use Rattle.r4k_top.specs.Command.{Command, Run, Assemble, Disassemble}
-use Rattle.r4k_top.specs.declared.statuses.Part.TheVariants.{Access}
-use Rattle.r4k_top.specs.Wanted.{Refusal, NoCommand, Refused, Stops, Wanted, refusal_of, wanted_of}
+use Rattle.r4k_top.specs.declared.telling.Telling.{Telling}
+use Rattle.r4k_top.specs.declared.telling.Telling.TheVariants as telling
+use Rattle.r4k_top.specs.Command.{Plan, Command, Run, Judge, Assemble, Disassemble, disk_out}
+use Rattle.r4k_top.specs.Wanted.{Refusal, NoCommand, Unreadable, Unparsed, Refused, Wanted, refusal_of, wanted_of}
 
 -- a file for the shelf
 pub record File : Type 0 where
@@ -27,8 +37,9 @@ abbrev pub file_name : Option File → Option (List ℕ)
 file_name None = None
 file_name (Some file) = Some file.name
 
--- what a job makes: a text for the sink, and then a file for the shelf, where it makes one
+-- what a job makes: a verdict, where it gives one, a text for the sink, and then a file for the shelf, where it makes one
 pub record Made : Type 0 where
+  pub verdict : Option Verdict
   pub text : List ℕ
   pub file : Option File
 
@@ -41,44 +52,94 @@ pub data End : Type 0 where
 
 -- THE RUN OF AN IMAGE
 
--- a machine is reported
-abbrev pub report_at : Machine → End
-report_at machine = Makes (record { text = report_of (shown_of machine); file = None })
+-- the bytes of a file that may be left out: none where no name is given
+abbrev pub bytes_given : (List ℕ → List ℕ) → Option (List ℕ) → List ℕ
+bytes_given held None = []
+bytes_given held (Some name) = held name
 
--- a run that ended at a halt or at the bound makes its report; one that met an access that is not built stops there
-abbrev pub run_end : Machine → Tick → End
-run_end machine Ran = report_at machine
-run_end machine (Trapped code) = report_at machine
-run_end machine (Halted code) = report_at machine
-run_end machine Unbuilt = Refuses (Stops machine.cpu.ticks Access)
+-- what a script says, which may be left out: no inputs where no name is given
+abbrev pub script_given : (List ℕ → List ℕ) → Option (List ℕ) → script.ScriptText
+script_given held None = script.Inputs []
+script_given held (Some name) = script.script_text (held name)
 
--- the run of an image's bytes from reset
-abbrev pub run_image : ℕ → List ℕ → Reached
-run_image steps bytes = run_of steps (reset_of boot_prom bytes)
+-- a file of these bytes, where there is a name for it
+abbrev pub named_file : Option (List ℕ) → List ℕ → Option File
+named_file None bytes = None
+named_file (Some name) bytes = Some (record { name = name; bytes = bytes })
 
--- what the run of an image comes to, within this bound on its ticks
-unfoldable pub run_job : ℕ → List ℕ → End
-run_job steps bytes = run_end (run_image steps bytes).machine (run_image steps bytes).answer
+-- a machine is reported, and its disk is put under a name, where there is one
+abbrev pub report_at : Option (List ℕ) → Machine → End
+report_at out machine =
+    Makes (record { verdict = None; text = report_of (shown_of machine); file = named_file out (shown_of machine).disk })
+
+-- the run of a shape from reset with the bytes of an image, the inputs of a script and the bytes of a disk
+abbrev pub run_from : Numbers → ℕ → List ℕ → List Input → List ℕ → Reached
+run_from shape steps image inputs disk = run_of steps (reset_of shape boot_prom image disk inputs)
+
+-- THE VERDICT ON A RUN
+
+-- the trace of such a run, which begins outside every span
+abbrev pub trace_from : Numbers → ℕ → List ℕ → List Input → List ℕ → List Event
+trace_from shape steps image inputs disk = run_events steps 0 (reset_of shape boot_prom image disk inputs)
+
+-- behind a text the report of a machine and the verdict by the first event that broke a rule; and its disk put under a name,
+-- where there is one
+abbrev pub checked : Option (List ℕ) → List ℕ → Option Found → Machine → Made
+checked out before first machine = record {
+  verdict = Some (verdict_by first);
+  text = before ++ checked_text machine first;
+  file = named_file out (shown_of machine).disk;
+}
+
+-- what is told of a run: its report, with the verdict on its trace, or with its trace before both
+abbrev pub told : Telling → Numbers → Option (List ℕ) → List Event → Machine → End
+told telling.Report shape out events machine = report_at out machine
+told telling.Verdict shape out events machine = Makes (checked out [] (standing_of shape events).first machine)
+told telling.Trace shape out events machine = Makes (checked out (trace_text events) (standing_of shape events).first machine)
+
+-- what such a run comes to, within a bound on its ticks, with the changed disk put under a name, where there is one
+unfoldable pub run_job : Telling → Numbers → ℕ → Option (List ℕ) → List ℕ → List Input → List ℕ → End
+run_job telling shape steps out image inputs disk =
+    told telling shape out (trace_from shape steps image inputs disk) (run_from shape steps image inputs disk).machine
+
+-- THE FILES OF A PLAN
+
+-- what the run of a plan comes to, over the bytes of its image and of its disk, by what its script says
+abbrev pub run_by : Plan → List ℕ → List ℕ → script.ScriptText → End
+run_by plan image disk (script.Inputs inputs) = run_job plan.telling plan.shape plan.steps (disk_out plan.disk) image inputs disk
+run_by plan image disk (script.Bad line reason) = Refuses (Unreadable line reason)
+
+-- THE VERDICT ON A TRACE
+
+-- a verdict, by the first event that broke a rule
+abbrev pub judged : Option Found → Made
+judged first = record { verdict = Some (verdict_by first); text = verdict_text (verdict_by first) (event_by first); file = None }
+
+-- the verdict on some events, or the first line of a trace that has none
+abbrev pub judge_job : Numbers → Result (List Event) ℕ → End
+judge_job shape (Ok events) = Makes (judged (standing_of shape events).first)
+judge_job shape (Err line) = Refuses (Unparsed line)
 
 -- THE IMAGE OF A SOURCE
 
 -- an image, put under a name
 abbrev pub put_image : List ℕ → Assembly → End
 put_image name (Image base entry bytes) =
-    Makes (record { text = []; file = Some (record { name = name; bytes = image_of base entry bytes }) })
+    Makes (record { verdict = None; text = []; file = Some (record { name = name; bytes = image_of base entry bytes }) })
 put_image name (Bad line reason) = Refuses (Refused line reason)
 
 -- THE LISTING OF AN IMAGE
 
 -- the listing of an image
 abbrev pub list_job : List ℕ → End
-list_job bytes = Makes (record { text = listing_of bytes; file = None })
+list_job bytes = Makes (record { verdict = None; text = listing_of bytes; file = None })
 
 -- ALL COMMANDS
 
 -- what the job of a command comes to, over the bytes that stand under each name, where no file is refused
 abbrev pub job_of : Command → (List ℕ → List ℕ) → End
-job_of (Run image steps) held = run_job steps (held image)
+job_of (Run plan) held = run_by plan (held plan.image) (bytes_given held plan.disk) (script_given held plan.script)
+job_of (Judge shape trace) held = judge_job shape (trace_of (held trace))
 job_of (Assemble source out) held = put_image out (assembled (held source))
 job_of (Disassemble image) held = list_job (held image)
 

@@ -1,16 +1,23 @@
 //! Commands, read from the words by their positions.
 
-ghost use Rattle.std.specs.Prelude.{◌≡◌, IfSome, IsNone, Some, ◌↔◌, IsTrue};
-ghost use Rattle.r4k_top.specs.Command.{word, command_of, is_run, is_asm, is_dis, run_with};
-ghost use Rattle.r4k_top.specs.CommandShown.{command_shown};
+ghost use Rattle.std.specs.Prelude.{◌≡◌, IfSome, IsNone, Some, ◌↔◌, IsTrue, false};
+ghost use Rattle.r4k_top.specs.Command as law;
+ghost use Rattle.r4k_top.specs.CommandShown.{name_shown, plan_shown, command_shown};
 
+use crate::plan::{Inquiry, Plan};
+use crate::telling::Telling;
+use r4_shape::{Shape, read_shape};
 use r4_words::read_dec;
 
 /// What the words ask for. Files go by their names on the shelf.
 #[derive(Clone, Copy)]
 pub enum Command<'a> {
-    /// `run pc/16 IMAGE - - STEPS`: runs an image for at most so many ticks, without a script and a disk.
-    Run { image: &'a str, steps: u32 },
+    /// `run SHAPE IMAGE SCRIPT DISK STEPS`: runs an image, with a script and a disk or `-`, for at most so many ticks, and puts
+    /// the disk as it is then. With `check` in the place of `run` it gives the verdict on the accesses that are made, and with
+    /// `trace` it writes these too.
+    Run(Plan<'a>),
+    /// `judge SHAPE TRACE`: gives the verdict on the accesses that were written.
+    Judge(Inquiry<'a>),
     /// `asm SOURCE OUT`: puts the image of a source.
     Assemble { source: &'a str, out: &'a str },
     /// `dis IMAGE`: writes the listing of an image.
@@ -19,7 +26,7 @@ pub enum Command<'a> {
 
 // The word at a position, or an empty text.
 fn word<'a>(words: &'a Vec<String>, at: usize) -> &'a str
-    ensures text { result.now ≡ word words.now at }
+    ensures text { result.now ≡ law.word words.now at }
 {
     match words.get(at) {
         Some(text) => text.as_str(),
@@ -27,33 +34,107 @@ fn word<'a>(words: &'a Vec<String>, at: usize) -> &'a str
     }
 }
 
-// Whether the words are those of a run, whatever its image and its bound.
+// Whether the words are as many as those of a run.
 fn is_run(words: &Vec<String>) -> bool
-    ensures { result ≡ is_run words.now }
+    ensures { result ≡ law.is_run words.now }
 {
-    let is_named = words.len() == 6 && word(words, 0) == "run";
-    is_named && word(words, 1) == "pc/16" && word(words, 3) == "-" && word(words, 4) == "-"
+    words.len() == 6
+}
+
+// What a run tells by its first word, None where that is no name of a run.
+fn telling_of(name: &str) -> Option<Telling>
+    ensures telling { result ≡ law.telling_of name.now }
+{
+    if name == "run" {
+        Some(Telling::Report)
+    } else if name == "check" {
+        Some(Telling::Verdict)
+    } else if name == "trace" {
+        Some(Telling::Trace)
+    } else {
+        None
+    }
+}
+
+fn is_judge(words: &Vec<String>) -> bool
+    ensures { result ≡ law.is_judge words.now }
+{
+    words.len() == 3 && word(words, 0) == "judge"
 }
 
 fn is_asm(words: &Vec<String>) -> bool
-    ensures { result ≡ is_asm words.now }
+    ensures { result ≡ law.is_asm words.now }
 {
     words.len() == 3 && word(words, 0) == "asm"
 }
 
 fn is_dis(words: &Vec<String>) -> bool
-    ensures { result ≡ is_dis words.now }
+    ensures { result ≡ law.is_dis words.now }
 {
     words.len() == 2 && word(words, 0) == "dis"
 }
 
-// A run for so many ticks as the text says, None where it is no decimal text.
-fn run_with<'a>(image: &'a str, steps: &str) -> Option<Command<'a>>
-    ensures none { IsNone result ↔ IsNone (run_with image.now steps.now) }
-    ensures some { IfSome result (λ command. run_with image.now steps.now ≡ Some (command_shown command)) }
+// The name of a script or of a disk; the word `-` stands for none.
+fn given<'a>(name: &'a str) -> Option<&'a str>
+    ensures name { name_shown result ≡ law.given name.now }
 {
-    match read_dec(steps.as_bytes()) {
-        Some(steps) => Some(Command::Run { image, steps }),
+    if name == "-" { None } else { Some(name) }
+}
+
+// The shape that a word names, None where it names none, or one with a secondary cache.
+fn shape_named(name: &str) -> Option<Shape>
+    ensures shape { result ≡ law.shape_named name.now }
+    ensures primary { IfSome result (λ shape. shape.sc ≡ false) }
+{
+    match read_shape(name) {
+        Some(shape) if !shape.sc() => Some(shape),
+        _ => None,
+    }
+}
+
+// The plan of a run, None where the words name no run, or no shape, or its bound is no decimal text.
+fn plan_of<'a>(words: &'a Vec<String>) -> Option<Plan<'a>>
+    ensures none { IsNone result ↔ IsNone (law.plan_of words.now) }
+    ensures some { IfSome result (λ plan. law.plan_of words.now ≡ Some (plan_shown plan)) }
+{
+    match (
+        telling_of(word(words, 0)),
+        shape_named(word(words, 1)),
+        read_dec(word(words, 5).as_bytes()),
+    ) {
+        (Some(telling), Some(shape), Some(steps)) => Some(Plan {
+            telling,
+            shape,
+            image: word(words, 2),
+            script: given(word(words, 3)),
+            disk: given(word(words, 4)),
+            steps,
+        }),
+        _ => None,
+    }
+}
+
+// The verdict on a trace, None where the words name no shape.
+fn judge_of<'a>(words: &'a Vec<String>) -> Option<Command<'a>>
+    ensures none { IsNone result ↔ IsNone (law.judge_of words.now) }
+    ensures some { IfSome result (λ command. law.judge_of words.now ≡ Some (command_shown command)) }
+{
+    match shape_named(word(words, 1)) {
+        Some(shape) => Some(Command::Judge(Inquiry {
+            shape,
+            trace: word(words, 2),
+        })),
+        None => None,
+    }
+}
+
+// A run by the plan of the words, None where they give none.
+fn run_by<'a>(words: &'a Vec<String>) -> Option<Command<'a>>
+    ensures none { IsNone result ↔ IsNone (law.run_by (law.plan_of words.now)) }
+    ensures some { IfSome result (λ command. law.run_by (law.plan_of words.now) ≡ Some (command_shown command)) }
+{
+    match plan_of(words) {
+        Some(plan) => Some(Command::Run(plan)),
         None => None,
     }
 }
@@ -61,11 +142,14 @@ fn run_with<'a>(image: &'a str, steps: &str) -> Option<Command<'a>>
 /// The command of the words, None where they are no command that is built.
 #[tactic(auto, unfolding(crate::specs::Command::command_of))]
 pub fn read_command<'a>(words: &'a Vec<String>) -> Option<Command<'a>>
-    ensures none { IsNone result ↔ IsNone (command_of words.now) }
-    ensures some { IfSome result (λ command. command_of words.now ≡ Some (command_shown command)) }
+    ensures none { IsNone result ↔ IsNone (law.command_of words.now) }
+    ensures some { IfSome result (λ command. law.command_of words.now ≡ Some (command_shown command)) }
 {
     if is_run(words) {
-        return run_with(word(words, 2), word(words, 5));
+        return run_by(words);
+    }
+    if is_judge(words) {
+        return judge_of(words);
     }
     if is_asm(words) {
         return Some(Command::Assemble {

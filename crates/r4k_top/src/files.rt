@@ -1,23 +1,41 @@
 //! Files of the shelf, fetched whole: one reader for each kind of file. A reader answers what is of its kind, or the status
 //! with which the call ends.
 
-ghost use Rattle.std.specs.Prelude.{◌≡◌, ◌≤◌, ◌<◌, ◌^◌, ◌∷◌, [], length, IfOk, IfErr, OnOk, Some};
+ghost use Rattle.std.specs.Prelude.{◌≡◌, ◌≤◌, ◌<◌, ◌^◌, ◌∷◌, [], length, false, IfOk, IfErr, OnOk, Some};
 ghost use Rattle.r4_ports.specs.Told.{Rose, Appended, fetch_of};
 ghost use Rattle.mips_asm.specs.Assembly as assembly;
-ghost use Rattle.r4k_top.specs.Wanted.{file_limit, an_image, a_source, line_refusal};
+ghost use Rattle.access_trace.specs.Traces.{trace_of};
+ghost use Rattle.input_script.specs.Grammar as script;
+ghost use Rattle.r4k_top.specs.CommandShown.{name_shown};
+ghost use Rattle.r4k_top.specs.Wanted.{file_limit, disk_limit, trace_limit, an_image, a_script, a_disk, a_trace, a_source, if_given};
+ghost use Rattle.r4k_top.specs.Wanted.{script_refusal, trace_refusal, line_refusal};
+ghost use Rattle.r4k_top.specs.Outcome.{Makes, judged, judge_job};
 ghost use Rattle.r4k_top.specs.Clauses.{OfFile};
-ghost use Rattle.r4k_top.specs.Making.{refused_status, MayStop, RefusedAs, Accepted};
+ghost use Rattle.r4k_top.specs.Making.{refused_status, MayStop, RefusedAs, GivenRefusedAs, Accepted, AllAccepted};
+ghost use Rattle.r4k_top.specs.Making.{OfGiven, OfScript, fetches};
 ghost use Rattle.r4k_top.specs.declared.statuses.Status.TheVariants.{TooLong};
 
+use crate::plan::{Inquiry, Plan};
 use crate::statuses::Status;
+use access_trace::TraceFault;
+use checked_run::judge_text;
 use elf_image::{Image, read_image};
+use input_script::{Script, ScriptFault, read_script};
 use mips_asm::{AsmFault, Built, assemble};
 use r4_ports::{FetchFault, Shelf};
+use r4_shape::Shape;
 use std::alloc::Global;
 use std::marker::Model;
+use trace_check::Judge;
 
-/// The most bytes of an image and of a source.
+/// The most bytes of an image, of a script and of a source.
 pub const FILE_LIMIT: usize = 16777216;
+
+/// The most bytes of a disk.
+pub const DISK_LIMIT: usize = 33554432;
+
+/// The most bytes of a trace.
+pub const TRACE_LIMIT: usize = 67108864;
 
 /// A file, whole. The shelf is asked for one byte more than the limit, which is enough to tell that it is too long.
 fn fetch_file<F: Shelf>(
@@ -33,6 +51,7 @@ fn fetch_file<F: Shelf>(
         (λ status. (status ≡ TooLong) × OfFile (F.held shelf.old) name.now (λ bytes. limit < length bytes))) }
 
     ensures held { F.held shelf.new ≡ F.held shelf.old }
+    ensures later { F.fetch_faults shelf.old ≤ F.fetch_faults shelf.new }
     ensures put_faults { F.put_faults shelf.new ≡ F.put_faults shelf.old }
     ensures asked { Appended (F.asked shelf.old) (F.asked shelf.new) (fetch_of name.now ∷ []) }
 {
@@ -86,6 +105,7 @@ pub fn read_image_file<F: Shelf>(
         (RefusedAs (F.held shelf.old) (an_image name.now))) }
 
     ensures held { F.held shelf.new ≡ F.held shelf.old }
+    ensures later { F.fetch_faults shelf.old ≤ F.fetch_faults shelf.new }
     ensures put_faults { F.put_faults shelf.new ≡ F.put_faults shelf.old }
     ensures asked { Appended (F.asked shelf.old) (F.asked shelf.new) (fetch_of name.now ∷ []) }
 {
@@ -100,6 +120,122 @@ pub fn read_image_file<F: Shelf>(
         }
     }
     Ok(ImageFile { bytes })
+}
+
+// The script of a text.
+fn parse_script(alloc: Global, text: &[u8]) -> Result<Script, Status>
+    requires { length text.now ≤ file_limit }
+    ensures script { IfOk result (λ inputs. script.script_text text.now ≡ script.Inputs inputs) }
+    ensures stopped { IfErr result (MayStop ⊥
+        (λ status. refused_status (script_refusal (script.script_text text.now)) ≡ Some status)) }
+{
+    match read_script(alloc, text) {
+        Ok(script) => Ok(script),
+        Err(ScriptFault::Bad { line, why }) => Err(Status::BadScript { line, why }),
+        Err(ScriptFault::Memory) => Err(Status::Memory),
+    }
+}
+
+// Reads a script.
+fn read_script_file<F: Shelf>(alloc: Global, name: &str, shelf: &mut F) -> Result<Script, Status>
+    ensures script { IfOk result (λ inputs. OfFile (F.held shelf.old) name.now
+        (λ bytes. script.script_text bytes ≡ script.Inputs inputs)) }
+    ensures accepted { OnOk result (Accepted (F.held shelf.old) (a_script name.now)) }
+    ensures stopped { IfErr result (MayStop (Rose (F.fetch_faults shelf.old) (F.fetch_faults shelf.new))
+        (RefusedAs (F.held shelf.old) (a_script name.now))) }
+
+    ensures held { F.held shelf.new ≡ F.held shelf.old }
+    ensures later { F.fetch_faults shelf.old ≤ F.fetch_faults shelf.new }
+    ensures put_faults { F.put_faults shelf.new ≡ F.put_faults shelf.old }
+    ensures asked { Appended (F.asked shelf.old) (F.asked shelf.new) (fetch_of name.now ∷ []) }
+{
+    let text = fetch_file(alloc, name, FILE_LIMIT, shelf)?;
+    parse_script(alloc, &text)
+}
+
+/// Reads the script, where one is given; where none is, it is empty.
+pub fn read_script_of<F: Shelf>(
+    alloc: Global,
+    plan: &Plan<'_>,
+    shelf: &mut F,
+) -> Result<Script, Status>
+    ensures script { IfOk result (OfScript (F.held shelf.old) (name_shown plan.now.script)) }
+    ensures accepted { OnOk result (AllAccepted (F.held shelf.old) (if_given a_script (name_shown plan.now.script))) }
+    ensures stopped { IfErr result (MayStop (Rose (F.fetch_faults shelf.old) (F.fetch_faults shelf.new))
+        (GivenRefusedAs (F.held shelf.old) a_script (name_shown plan.now.script))) }
+
+    ensures held { F.held shelf.new ≡ F.held shelf.old }
+    ensures later { F.fetch_faults shelf.old ≤ F.fetch_faults shelf.new }
+    ensures put_faults { F.put_faults shelf.new ≡ F.put_faults shelf.old }
+    ensures asked { Appended (F.asked shelf.old) (F.asked shelf.new)
+        (fetches (if_given a_script (name_shown plan.now.script))) }
+{
+    match plan.script {
+        Some(name) => read_script_file(alloc, name, shelf),
+        None => Ok(Script::empty(alloc)),
+    }
+}
+
+/// Reads the disk, where one is given; where none is, it has no bytes.
+pub fn read_disk_of<F: Shelf>(
+    alloc: Global,
+    plan: &Plan<'_>,
+    shelf: &mut F,
+) -> Result<Vec<u8>, Status>
+    ensures disk { IfOk result (λ disk. OfGiven (F.held shelf.old) (name_shown plan.now.disk)
+        (λ bytes. disk.items ≡ bytes)) }
+    ensures short { IfOk result (λ disk. length disk.items ≤ disk_limit) }
+    ensures accepted { OnOk result (AllAccepted (F.held shelf.old) (if_given a_disk (name_shown plan.now.disk))) }
+    ensures stopped { IfErr result (MayStop (Rose (F.fetch_faults shelf.old) (F.fetch_faults shelf.new))
+        (GivenRefusedAs (F.held shelf.old) a_disk (name_shown plan.now.disk))) }
+
+    ensures held { F.held shelf.new ≡ F.held shelf.old }
+    ensures later { F.fetch_faults shelf.old ≤ F.fetch_faults shelf.new }
+    ensures put_faults { F.put_faults shelf.new ≡ F.put_faults shelf.old }
+    ensures asked { Appended (F.asked shelf.old) (F.asked shelf.new)
+        (fetches (if_given a_disk (name_shown plan.now.disk))) }
+{
+    match plan.disk {
+        Some(name) => fetch_file(alloc, name, DISK_LIMIT, shelf),
+        None => Ok(Vec::new(alloc)),
+    }
+}
+
+// The judge of the events of a text.
+fn judge_file(alloc: Global, shape: Shape, text: &[u8]) -> Result<Judge, Status>
+    requires primary { shape.sc ≡ false }
+    requires short { length text.now ≤ trace_limit }
+    ensures judged { IfOk result (λ judge. judge_job shape (trace_of text.now) ≡ Makes (judged judge.first)) }
+    ensures good { OnOk result (trace_refusal (trace_of text.now) ≡ None) }
+    ensures stopped { IfErr result (MayStop ⊥
+        (λ status. refused_status (trace_refusal (trace_of text.now)) ≡ Some status)) }
+{
+    match judge_text(alloc, shape, text) {
+        Ok(judge) => Ok(judge),
+        Err(TraceFault::BadLine { line }) => Err(Status::BadTrace { line }),
+        Err(TraceFault::Memory) => Err(Status::Memory),
+    }
+}
+
+/// Reads a trace, and judges its events.
+pub fn read_judged<F: Shelf>(
+    alloc: Global,
+    inquiry: &Inquiry<'_>,
+    shelf: &mut F,
+) -> Result<Judge, Status>
+    ensures judged { IfOk result (λ judge. OfFile (F.held shelf.old) inquiry.now.trace.now
+        (λ bytes. judge_job inquiry.now.shape (trace_of bytes) ≡ Makes (judged judge.first))) }
+    ensures accepted { OnOk result (Accepted (F.held shelf.old) (a_trace inquiry.now.trace.now)) }
+    ensures stopped { IfErr result (MayStop (Rose (F.fetch_faults shelf.old) (F.fetch_faults shelf.new))
+        (RefusedAs (F.held shelf.old) (a_trace inquiry.now.trace.now))) }
+
+    ensures held { F.held shelf.new ≡ F.held shelf.old }
+    ensures later { F.fetch_faults shelf.old ≤ F.fetch_faults shelf.new }
+    ensures put_faults { F.put_faults shelf.new ≡ F.put_faults shelf.old }
+    ensures asked { Appended (F.asked shelf.old) (F.asked shelf.new) (fetch_of inquiry.now.trace.now ∷ []) }
+{
+    let text = fetch_file(alloc, inquiry.trace, TRACE_LIMIT, shelf)?;
+    judge_file(alloc, inquiry.shape, &text)
 }
 
 // Assembles a source.
@@ -128,6 +264,7 @@ pub fn read_source<F: Shelf>(alloc: Global, name: &str, shelf: &mut F) -> Result
         (RefusedAs (F.held shelf.old) (a_source name.now))) }
 
     ensures held { F.held shelf.new ≡ F.held shelf.old }
+    ensures later { F.fetch_faults shelf.old ≤ F.fetch_faults shelf.new }
     ensures put_faults { F.put_faults shelf.new ≡ F.put_faults shelf.old }
     ensures asked { Appended (F.asked shelf.old) (F.asked shelf.new) (fetch_of name.now ∷ []) }
 {

@@ -1,59 +1,195 @@
 //! What the commands make, each of the files that it wants: a straight line of readers, and then the job. Nothing is
 //! written or put here.
 
-ghost use Rattle.std.specs.Prelude.{◌≡◌, IfOk, IfErr, Some};
-ghost use Rattle.r4_ports.specs.Told.{Rose};
+ghost use Rattle.std.specs.Prelude.{◌≡◌, ◌≤◌, length, IfOk, IfErr, OnOk, Some};
+ghost use Rattle.r4_ports.specs.Told.{Rose, Appended};
+ghost use Rattle.machine_core.specs.Machine.{reset_of};
+ghost use Rattle.checked_run.specs.Trials.{Begins};
+ghost use Rattle.r4k_top.specs.BootProm.{boot_prom};
 ghost use Rattle.r4k_top.specs.Command as law;
-ghost use Rattle.r4k_top.specs.CommandShown.{command_shown};
+ghost use Rattle.r4k_top.specs.CommandShown.{name_shown, plan_shown, command_shown};
+ghost use Rattle.r4k_top.specs.Wanted.{disk_limit, wanted_by};
 ghost use Rattle.r4k_top.specs.Outcome.{Makes, Refuses, run_job};
 ghost use Rattle.r4k_top.specs.Answers.{status_of};
-ghost use Rattle.r4k_top.specs.EndShown.{made_shown};
-ghost use Rattle.r4k_top.specs.Making.{MayStop, MadeOf, StoppedWith};
+ghost use Rattle.r4k_top.specs.EndShown.{out_shown, made_shown};
+ghost use Rattle.r4k_top.specs.Making.{MayStop, AllAccepted, fetches, MadeOf, StoppedWith, IsSetup};
 
 use crate::commands::Command;
-use crate::files::{ImageFile, read_image_file, read_source};
-use crate::product::Product;
+use crate::files::{
+    ImageFile, read_disk_of, read_image_file, read_judged, read_script_of, read_source,
+};
+use crate::plan::{Inquiry, Plan};
+use crate::product::{Finished, Product};
 use crate::prom_words::boot_prom;
-use crate::statuses::{Part, Status};
+use crate::statuses::Status;
+use crate::telling::Telling;
+use crate::traced_run::TracedRun;
+use checked_run::Trial;
 use elf_image::write_image;
+use input_script::Script;
 use machine_core::Machine;
-use mips3_exec::Tick;
 use r4_ports::Shelf;
 use std::alloc::Global;
 
-// Runs an image from reset for at most so many ticks. All memory is taken before the first tick.
-#[tactic(auto, unfolding(crate::specs::Outcome::run_job))]
-fn run_image<'a>(alloc: Global, image: &ImageFile, steps: u32) -> Result<Product<'a>, Status>
-    ensures made { IfOk result (λ product. run_job steps image.now ≡ Makes (made_shown product)) }
-    ensures stopped { IfErr result (MayStop ⊥ (λ status. status ≡ status_of (run_job steps image.now))) }
+/// What a run is made of.
+#[derive(Drop)]
+pub struct Setup {
+    pub image: ImageFile,
+    pub script: Script,
+    pub disk: Vec<u8>,
+}
+
+// Makes the name under which the changed disk is put.
+fn name_out(alloc: Global, plan: &Plan<'_>) -> Result<Option<String>, Status>
+    ensures name { IfOk result (λ out. out_shown out ≡ law.disk_out (name_shown plan.now.disk)) }
+    ensures stopped { IfErr result (λ status. status ≡ Status.Memory) }
 {
-    let mut machine = Machine::new(alloc, &boot_prom(), &image.image())?;
-    match machine.run(steps) {
-        Tick::Unbuilt => Err(Status::Unbuilt {
-            tick: machine.cpu.ticks,
-            part: Part::Access,
-        }),
-        Tick::Ran | Tick::Trapped(_) | Tick::Halted(_) => Ok(Product::Report(machine)),
+    match plan.disk {
+        None => Ok(None),
+        Some(name) => {
+            let mut out = String::from_str(alloc, name)?;
+            out.push_str(".out")?;
+            Ok(Some(out))
+        }
     }
+}
+
+// Runs an image from reset for at most so many ticks, for its report.
+#[tactic(auto, unfolding(crate::specs::Outcome::run_job))]
+fn report_run<'a>(
+    alloc: Global,
+    plan: &Plan<'_>,
+    setup: Setup,
+    out: Option<String>,
+) -> Result<Product<'a>, Status>
+    requires { length setup.disk.items ≤ disk_limit }
+    ensures made { IfOk result (λ product. run_job Telling.Report plan.now.shape plan.now.steps (out_shown out)
+        setup.image setup.script setup.disk.items ≡ Makes (made_shown product)) }
+    ensures stopped { IfErr result (λ status. status ≡ Status.Memory) }
+{
+    let Setup {
+        image,
+        script,
+        disk,
+    } = setup;
+    let prom = boot_prom();
+    let mut machine = Machine::new(alloc, plan.shape, &prom, &image.image(), disk, script)?;
+    let _ = machine.run(plan.steps);
+    Ok(Product::Finished(Finished::Report { machine, out }))
+}
+
+// The trial of a run, of which no tick was made.
+fn start_trial(alloc: Global, plan: &Plan<'_>, setup: Setup) -> Result<Trial, Status>
+    requires { length setup.disk.items ≤ disk_limit }
+    ensures begins { IfOk result (Begins plan.now.shape
+        (reset_of plan.now.shape boot_prom setup.image setup.disk.items setup.script)) }
+    ensures stopped { IfErr result (λ status. status ≡ Status.Memory) }
+{
+    let Setup {
+        image,
+        script,
+        disk,
+    } = setup;
+    let prom = boot_prom();
+    Ok(Trial::new(alloc, plan.shape, &prom, &image.image(), disk, script)?)
+}
+
+// Runs an image from reset for at most so many ticks, for its report and the verdict.
+#[tactic(auto, using(crate::proofs::Trials::check_made))]
+fn check_run<'a>(
+    alloc: Global,
+    plan: &Plan<'_>,
+    setup: Setup,
+    out: Option<String>,
+) -> Result<Product<'a>, Status>
+    requires { length setup.disk.items ≤ disk_limit }
+    ensures made { IfOk result (λ product. run_job Telling.Verdict plan.now.shape plan.now.steps (out_shown out)
+        setup.image setup.script setup.disk.items ≡ Makes (made_shown product)) }
+    ensures stopped { IfErr result (λ status. status ≡ Status.Memory) }
+{
+    let mut trial = start_trial(alloc, plan, setup)?;
+    trial.run(plan.steps);
+    Ok(Product::Finished(Finished::Checked { trial, out }))
+}
+
+// The run of an image from reset for at most so many ticks, which is made while its trace is written.
+#[tactic(auto, using(crate::proofs::Trials::trace_made, crate::proofs::Trials::no_ticks, crate::proofs::Trials::few_events))]
+fn trace_run<'a>(
+    alloc: Global,
+    plan: &Plan<'_>,
+    setup: Setup,
+    out: Option<String>,
+) -> Result<Product<'a>, Status>
+    requires { length setup.disk.items ≤ disk_limit }
+    ensures made { IfOk result (λ product. run_job Telling.Trace plan.now.shape plan.now.steps (out_shown out)
+        setup.image setup.script setup.disk.items ≡ Makes (made_shown product)) }
+    ensures stopped { IfErr result (λ status. status ≡ Status.Memory) }
+{
+    let trial = start_trial(alloc, plan, setup)?;
+    let run = TracedRun::new(trial, plan.steps);
+    Ok(Product::Traced { run, out })
+}
+
+// Runs an image from reset for at most so many ticks, or prepares that. All memory is taken before the first tick.
+fn run_setup<'a>(
+    alloc: Global,
+    plan: &Plan<'_>,
+    setup: Setup,
+    out: Option<String>,
+) -> Result<Product<'a>, Status>
+    requires { length setup.disk.items ≤ disk_limit }
+    ensures made { IfOk result (λ product. run_job plan.now.telling plan.now.shape plan.now.steps (out_shown out)
+        setup.image setup.script setup.disk.items ≡ Makes (made_shown product)) }
+    ensures stopped { IfErr result (λ status. status ≡ Status.Memory) }
+{
+    match plan.telling {
+        Telling::Report => report_run(alloc, plan, setup, out),
+        Telling::Verdict => check_run(alloc, plan, setup, out),
+        Telling::Trace => trace_run(alloc, plan, setup, out),
+    }
+}
+
+// Reads the files of a run.
+fn read_setup<F: Shelf>(alloc: Global, plan: &Plan<'_>, shelf: &mut F) -> Result<Setup, Status>
+    ensures setup { IfOk result (λ setup.
+        IsSetup (F.held shelf.old) (plan_shown plan.now) setup.image setup.script setup.disk.items) }
+    ensures short { IfOk result (λ setup. length setup.disk.items ≤ disk_limit) }
+    ensures accepted { OnOk result (AllAccepted (F.held shelf.old) (wanted_by (plan_shown plan.now))) }
+    ensures stopped { IfErr result (StoppedWith (Some (law.Run (plan_shown plan.now)))
+        (F.held shelf.old) (F.asked shelf.old) (F.asked shelf.new)
+        (Rose (F.fetch_faults shelf.old) (F.fetch_faults shelf.new))) }
+    ensures held { F.held shelf.new ≡ F.held shelf.old }
+    ensures put_faults { F.put_faults shelf.new ≡ F.put_faults shelf.old }
+    ensures asked { OnOk result (Appended (F.asked shelf.old) (F.asked shelf.new)
+        (fetches (wanted_by (plan_shown plan.now)))) }
+{
+    let image = read_image_file(alloc, plan.image, shelf)?;
+    let script = read_script_of(alloc, plan, shelf)?;
+    let disk = read_disk_of(alloc, plan, shelf)?;
+    Ok(Setup {
+        image,
+        script,
+        disk,
+    })
 }
 
 // Makes the report of a run.
 fn make_report<'a, F: Shelf>(
     alloc: Global,
-    image: &str,
-    steps: u32,
+    plan: &Plan<'_>,
     shelf: &mut F,
 ) -> Result<Product<'a>, Status>
-    ensures made { IfOk result (λ product. MadeOf (Some (law.Run image.now steps))
+    ensures made { IfOk result (λ product. MadeOf (Some (law.Run (plan_shown plan.now)))
         (F.held shelf.old) (F.asked shelf.old) (F.asked shelf.new) (made_shown product)) }
-    ensures stopped { IfErr result (StoppedWith (Some (law.Run image.now steps))
+    ensures stopped { IfErr result (StoppedWith (Some (law.Run (plan_shown plan.now)))
         (F.held shelf.old) (F.asked shelf.old) (F.asked shelf.new)
         (Rose (F.fetch_faults shelf.old) (F.fetch_faults shelf.new))) }
     ensures held { F.held shelf.new ≡ F.held shelf.old }
     ensures put_faults { F.put_faults shelf.new ≡ F.put_faults shelf.old }
 {
-    let image = read_image_file(alloc, image, shelf)?;
-    run_image(alloc, &image, steps)
+    let setup = read_setup(alloc, plan, shelf)?;
+    let out = name_out(alloc, plan)?;
+    run_setup(alloc, plan, setup, out)
 }
 
 // Makes the image of a source, for a name.
@@ -73,7 +209,25 @@ fn make_image<'a, F: Shelf>(
 {
     let built = read_source(alloc, source, shelf)?;
     let bytes = write_image(alloc, built.base, built.entry, &built.bytes)?;
-    Ok(Product::File { name: out, bytes })
+    Ok(Product::Finished(Finished::File { name: out, bytes }))
+}
+
+// Makes the verdict on a trace.
+fn make_verdict<'a, F: Shelf>(
+    alloc: Global,
+    inquiry: &Inquiry<'_>,
+    shelf: &mut F,
+) -> Result<Product<'a>, Status>
+    ensures made { IfOk result (λ product. MadeOf (Some (law.Judge inquiry.now.shape inquiry.now.trace.now))
+        (F.held shelf.old) (F.asked shelf.old) (F.asked shelf.new) (made_shown product)) }
+    ensures stopped { IfErr result (StoppedWith (Some (law.Judge inquiry.now.shape inquiry.now.trace.now))
+        (F.held shelf.old) (F.asked shelf.old) (F.asked shelf.new)
+        (Rose (F.fetch_faults shelf.old) (F.fetch_faults shelf.new))) }
+    ensures held { F.held shelf.new ≡ F.held shelf.old }
+    ensures put_faults { F.put_faults shelf.new ≡ F.put_faults shelf.old }
+{
+    let judge = read_judged(alloc, inquiry, shelf)?;
+    Ok(Product::Finished(Finished::Judged(judge)))
 }
 
 // Makes the listing of an image.
@@ -91,7 +245,7 @@ fn make_listing<'a, F: Shelf>(
     ensures put_faults { F.put_faults shelf.new ≡ F.put_faults shelf.old }
 {
     let image = read_image_file(alloc, image, shelf)?;
-    Ok(Product::Listing(image))
+    Ok(Product::Finished(Finished::Listing(image)))
 }
 
 /// Makes what a command asks for, or answers why nothing is made.
@@ -108,9 +262,10 @@ pub fn make<'a, F: Shelf>(
     ensures held { F.held shelf.new ≡ F.held shelf.old }
     ensures put_faults { F.put_faults shelf.new ≡ F.put_faults shelf.old }
 {
-    match *command {
-        Command::Run { image, steps } => make_report(alloc, image, steps, shelf),
-        Command::Assemble { source, out } => make_image(alloc, source, out, shelf),
-        Command::Disassemble { image } => make_listing(alloc, image, shelf),
+    match command {
+        Command::Run(plan) => make_report(alloc, plan, shelf),
+        Command::Judge(inquiry) => make_verdict(alloc, inquiry, shelf),
+        Command::Assemble { source, out } => make_image(alloc, *source, *out, shelf),
+        Command::Disassemble { image } => make_listing(alloc, *image, shelf),
     }
 }

@@ -1,8 +1,8 @@
 //! The top call: what the words of a command line say is done over a shelf of files and a sink.
 //!
-//! Reading order: `commands` reads the words; `files` has a reader for each kind of file; `prom_words` has the PROM's
-//! words; `job` makes what a command asks for; `product` is what is made, and its way out; `statuses` says how the program
-//! ended, in numbers and lines. `workstation` is the call; its clauses say when each answer comes and what stands after it,
+//! Reading order: `plan` is what a run is made by; `commands` reads the words; `files` has a reader for each kind of file;
+//! `prom_words` has the PROM's words; `job` makes what a command asks for; `product` is what is made, and its way out;
+//! `statuses` says how the program ended, in numbers and lines. `workstation` is the call; its clauses say when each answer comes and what stands after it,
 //! by the definitions of `specs/Command.antt`, `specs/Wanted.antt` and `specs/Outcome.antt`.
 #![tactic(auto)]
 
@@ -10,26 +10,31 @@ ghost use Rattle.std.specs.Prelude.{◌≡◌, ◌⊎◌, true, IsNone, ◌↔�
 ghost use Rattle.r4_ports.specs.Told.{Rose, Appended};
 ghost use Rattle.r4k_top.specs.Command.{command_of, out_name};
 ghost use Rattle.r4k_top.specs.Wanted.{fetches_of, calls_of};
-ghost use Rattle.r4k_top.specs.Answers.{MayAnswer, IsEarly, IsRefusal, PutsNothing};
+ghost use Rattle.r4k_top.specs.Answers.{MayAnswer, IsComplete, IsEarly, IsRefusal, PutsNothing};
 ghost use Rattle.r4k_top.specs.Clauses.{ComesTo, EndsWith, Written, WrittenPrefix, FilePut, PutRose, OthersStay};
 ghost use Rattle.r4k_top.specs.Clauses.{AskedPrefix, AskedUpTo, WriteFailed, PutFailed};
 
 pub mod commands;
 pub mod files;
 pub mod job;
+pub mod plan;
 pub mod product;
 pub mod prom_words;
 pub mod statuses;
+pub mod telling;
+pub mod traced_run;
 
 use crate::commands::read_command;
 pub use crate::files::FILE_LIMIT;
 use crate::job::make;
 use crate::product::deliver;
+pub use access_trace::Breach;
 pub use elf_image::ImageRule;
+pub use input_script::ScriptWhy;
 pub use mips_text::AsmWhy;
 pub use prom_words::boot_prom;
 use r4_ports::{Shelf, Sink};
-pub use statuses::{Part, Status, report_status, status_number, write_status};
+pub use statuses::{Status, report_status, status_number, write_status};
 use std::alloc::Global;
 
 /// Does what the words say: it fetches the files that the command wants, makes what it asks for, and then writes that to the
@@ -48,12 +53,12 @@ pub fn workstation<F: Shelf, K: Sink>(
         ⊎ PutRose (out_name (command_of words.now)) (F.put_faults shelf.old) (F.put_faults shelf.new))
         (EndsWith (command_of words.now) (F.held shelf.old)) result }
 
-    // Done comes after all that is made was written, has gone out, and was put. WriteFault comes after a prefix of the text:
+    // Done, and Breach where the verdict is no, come after all that is made was written, has gone out, and was put. WriteFault comes after a prefix of the text:
     // a write or the flush failed, and no put was tried; or the put failed, after the whole text has gone out.
-    ensures done { result ≡ Status.Done →
+    ensures done { IsComplete result →
         ComesTo (command_of words.now) (F.held shelf.old) (Written (K.written out.old) (K.written out.new)) }
-    ensures done_flushed { result ≡ Status.Done → K.is_flushed out.new ≡ true }
-    ensures done_put { result ≡ Status.Done →
+    ensures done_flushed { IsComplete result → K.is_flushed out.new ≡ true }
+    ensures done_put { IsComplete result →
         ComesTo (command_of words.now) (F.held shelf.old) (FilePut (F.held shelf.old) (F.held shelf.new)) }
     ensures written_prefix { result ≡ Status.WriteFault →
         ComesTo (command_of words.now) (F.held shelf.old) (WrittenPrefix (K.written out.old) (K.written out.new)) }
@@ -74,20 +79,20 @@ pub fn workstation<F: Shelf, K: Sink>(
     ensures others_stay { OthersStay (out_name (command_of words.now)) (F.held shelf.old) (F.held shelf.new) }
 
     // The shelf is asked for the command's fetches and then its put, in their order: for fetches alone before the answers
-    // that come early, up to the refused file before a refusal, and for all before Done.
+    // that come early, up to the refused file before a refusal, and for all before the job is complete.
     ensures asked { AskedPrefix (F.asked shelf.old) (F.asked shelf.new) (calls_of (command_of words.now)) }
     ensures asked_early { IsEarly result →
         AskedPrefix (F.asked shelf.old) (F.asked shelf.new) (fetches_of (command_of words.now)) }
     ensures asked_up_to { IsRefusal result →
         AskedUpTo (command_of words.now) (F.held shelf.old) (F.asked shelf.old) (F.asked shelf.new) }
-    ensures asked_all { result ≡ Status.Done →
+    ensures asked_all { IsComplete result →
         Appended (F.asked shelf.old) (F.asked shelf.new) (calls_of (command_of words.now)) }
 {
     let Some(command) = read_command(words) else {
         return Status::Usage;
     };
     match make(alloc, &command, shelf) {
-        Ok(product) => deliver(&product, shelf, out),
+        Ok(product) => deliver(product, shelf, out),
         Err(status) => status,
     }
 }

@@ -1,92 +1,203 @@
 //! What a job makes, and its way out: first its text to the sink, then its file to the shelf.
 
-ghost use Rattle.std.specs.Prelude.{◌≡◌, ◌⊎◌, true, OnOk, OnErr, IsNone};
-ghost use Rattle.r4_ports.specs.Told.{Appended, AppendedPrefix, HasCause, Rose};
+ghost use Rattle.std.specs.Prelude.{◌≡◌, ◌≢◌, true, OnOk, OnErr, IsNone, Some};
+ghost use Rattle.r4_ports.specs.Told.{Appended, AppendedPrefix, HasCause};
+ghost use Rattle.r4k_top.specs.Answers as answers;
 ghost use Rattle.r4k_top.specs.Wanted.{puts_to};
-ghost use Rattle.r4k_top.specs.Outcome.{file_name};
+ghost use Rattle.r4k_top.specs.Outcome.{file_name, named_file};
 ghost use Rattle.r4k_top.specs.Clauses.{HasPut, PutRose, OthersStay};
-ghost use Rattle.r4k_top.specs.EndShown.{made_shown};
-ghost use Rattle.r4k_top.specs.Making.{IsLate, PutAfter};
+ghost use Rattle.r4k_top.specs.EndShown.{out_shown, file_shown, finished_shown, traced_shown, made_shown};
+ghost use Rattle.r4k_top.specs.Making.{IsLate, Placed, Delivered};
 
 use crate::files::ImageFile;
 use crate::statuses::Status;
+use crate::traced_run::TracedRun;
+use access_trace::Verdict;
+use checked_run::{Trial, write_checked, write_judged, write_traced};
 use image_listing::write_listing;
 use machine_core::Machine;
 use r4_ports::{PutFault, Shelf, Sink, SinkFault, write_all};
 use run_report::write_report;
+use trace_check::Judge;
+
+/// What is made, and has only to go out.
+#[derive(Drop)]
+pub enum Finished<'a> {
+    /// The machine at the end of a run, of which the report is written, and the name under which its disk is put, where there
+    /// is one.
+    Report {
+        machine: Machine,
+        out: Option<String>,
+    },
+    /// The same with the verdict on the run, which is written too.
+    Checked {
+        trial: Trial,
+        out: Option<String>,
+    },
+    /// The judge of a trace, of which the verdict is written.
+    Judged(Judge),
+    /// An image, of which the listing is written.
+    Listing(ImageFile),
+    /// A file, which is put under a name.
+    File {
+        name: &'a str,
+        bytes: Vec<u8>,
+    },
+}
 
 /// What a job makes.
 #[derive(Drop)]
 pub enum Product<'a> {
-    /// The machine at the end of a run, of which the report is written.
-    Report(Machine),
-    /// An image, of which the listing is written.
-    Listing(ImageFile),
-    /// A file, which is put under a name.
-    File { name: &'a str, bytes: Vec<u8> },
+    /// What is made already.
+    Finished(Finished<'a>),
+    /// A run that is made while its trace is written, and the name under which its disk is put then, where there is one.
+    Traced { run: TracedRun, out: Option<String> },
 }
 
 // Writes the text, so that it has gone out. The text beside a file is empty, and is flushed as every other.
-fn write_text<K: Sink>(product: &Product<'_>, out: &mut K) -> Result<(), SinkFault>
-    ensures ok { OnOk result (Appended (K.written out.old) (K.written out.new) (made_shown product.now).text) }
+fn write_text<K: Sink>(finished: &Finished<'_>, out: &mut K) -> Result<(), SinkFault>
+    ensures ok { OnOk result (Appended (K.written out.old) (K.written out.new) (finished_shown finished.now).text) }
     ensures flushed { OnOk result (K.is_flushed out.new ≡ true) }
-    ensures err { OnErr result (AppendedPrefix (K.written out.old) (K.written out.new) (made_shown product.now).text) }
+    ensures err { OnErr result
+        (AppendedPrefix (K.written out.old) (K.written out.new) (finished_shown finished.now).text) }
     ensures cause { HasCause (K.faults out.old) (K.faults out.new) result }
 {
-    match product {
-        Product::Report(machine) => write_report(&machine.view(), out),
-        Product::Listing(image) => write_listing(&image.image(), out),
-        Product::File { .. } => write_all(b"", out),
+    match finished {
+        Finished::Report { machine, out: _ } => write_report(&machine.view(), out),
+        Finished::Checked { trial, out: _ } => write_checked(trial, out),
+        Finished::Judged(judge) => write_judged(judge, out),
+        Finished::Listing(image) => write_listing(&image.image(), out),
+        Finished::File { .. } => write_all(b"", out),
+    }
+}
+
+// The status with which a verdict is given.
+fn status_of_verdict(verdict: Verdict) -> Status
+    ensures status { result ≡ answers.status_of_verdict (Some verdict) }
+    ensures late { IsLate result }
+    ensures complete { result ≢ Status.WriteFault }
+{
+    match verdict {
+        Verdict::Yes => Status::Done,
+        Verdict::No { event, breach } => Status::Breach { event, breach },
+    }
+}
+
+// The status with which a job is complete.
+fn status_of(finished: &Finished<'_>) -> Status
+    ensures status { result ≡ answers.status_of_verdict (finished_shown finished.now).verdict }
+    ensures late { IsLate result }
+    ensures complete { result ≢ Status.WriteFault }
+{
+    match finished {
+        Finished::Checked { trial, out: _ } => status_of_verdict(trial.judge.verdict()),
+        Finished::Judged(judge) => status_of_verdict(judge.verdict()),
+        Finished::Report { .. } | Finished::Listing(_) | Finished::File { .. } => Status::Done,
+    }
+}
+
+/// A file that is put: its name and its bytes.
+#[derive(Clone, Copy)]
+struct FileMade<'a> {
+    name: &'a str,
+    bytes: &'a [u8],
+}
+
+// A disk under its name, where there is one.
+fn disk_made<'a>(disk: &'a [u8], out: &'a Option<String>) -> Option<FileMade<'a>>
+    ensures file { file_shown result ≡ named_file (out_shown out.now) disk.now }
+{
+    match out {
+        Some(name) => Some(FileMade {
+            name: name.as_str(),
+            bytes: disk,
+        }),
+        None => None,
+    }
+}
+
+// The file of what is made, where it has one.
+fn file_of<'a>(finished: &'a Finished<'_>) -> Option<FileMade<'a>>
+    ensures file { file_shown result ≡ (finished_shown finished.now).file }
+{
+    match finished {
+        Finished::Report { machine, out } => disk_made(machine.view().disk, out),
+        Finished::Checked { trial, out } => disk_made(trial.machine.view().disk, out),
+        Finished::Judged(_) | Finished::Listing(_) => None,
+        Finished::File { name, bytes } => Some(FileMade { name, bytes }),
     }
 }
 
 // Puts the file, if there is one.
-fn put_file<F: Shelf>(product: &Product<'_>, shelf: &mut F) -> Result<(), PutFault>
-    ensures ok { OnOk result (HasPut (F.held shelf.old) (F.held shelf.new) (made_shown product.now).file) }
+fn put_file<F: Shelf>(finished: &Finished<'_>, shelf: &mut F) -> Result<(), PutFault>
+    ensures ok { OnOk result (HasPut (F.held shelf.old) (F.held shelf.new) (finished_shown finished.now).file) }
     ensures cause { OnErr result
-        (PutRose (file_name (made_shown product.now).file) (F.put_faults shelf.old) (F.put_faults shelf.new)) }
-    ensures none { IsNone (made_shown product.now).file → shelf.new ≡ shelf.old }
-    ensures others { OthersStay (file_name (made_shown product.now).file) (F.held shelf.old) (F.held shelf.new) }
+        (PutRose (file_name (finished_shown finished.now).file) (F.put_faults shelf.old) (F.put_faults shelf.new)) }
+    ensures none { IsNone (finished_shown finished.now).file → shelf.new ≡ shelf.old }
+    ensures others { OthersStay (file_name (finished_shown finished.now).file) (F.held shelf.old) (F.held shelf.new) }
     ensures asked { Appended (F.asked shelf.old) (F.asked shelf.new)
-        (puts_to (file_name (made_shown product.now).file)) }
+        (puts_to (file_name (finished_shown finished.now).file)) }
 {
-    match product {
-        Product::Report(_) | Product::Listing(_) => Ok(()),
-        Product::File { name, bytes } => shelf.put(name, bytes),
+    match file_of(finished) {
+        Some(file) => shelf.put(file.name, file.bytes),
+        None => Ok(()),
     }
 }
 
-/// Writes the text that a job makes, and puts its file: Done, or WriteFault.
-pub fn deliver<F: Shelf, K: Sink>(product: &Product<'_>, shelf: &mut F, out: &mut K) -> Status
-    ensures late { IsLate result }
-    ensures written { result ≡ Status.Done →
-        Appended (K.written out.old) (K.written out.new) (made_shown product.now).text }
-    ensures flushed { result ≡ Status.Done → K.is_flushed out.new ≡ true }
-    ensures put { result ≡ Status.Done →
-        HasPut (F.held shelf.old) (F.held shelf.new) (made_shown product.now).file }
-    ensures asked { result ≡ Status.Done → Appended (F.asked shelf.old) (F.asked shelf.new)
-        (puts_to (file_name (made_shown product.now).file)) }
-
-    // A failure is that of a write or of the flush, after a prefix of the text, and then the shelf stays; or that of the put,
-    // after the whole text has gone out.
-    ensures prefix { result ≡ Status.WriteFault →
-        AppendedPrefix (K.written out.old) (K.written out.new) (made_shown product.now).text }
-    ensures cause { result ≡ Status.WriteFault → Rose (K.faults out.old) (K.faults out.new)
-        ⊎ PutRose (file_name (made_shown product.now).file) (F.put_faults shelf.old) (F.put_faults shelf.new) }
-    ensures stops { result ≡ Status.WriteFault →
-        Rose (K.faults out.old) (K.faults out.new) × (shelf.new ≡ shelf.old)
-        ⊎ PutAfter (made_shown product.now) (K.written out.old) (K.written out.new) (K.is_flushed out.new)
-        (F.asked shelf.old) (F.asked shelf.new) (F.put_faults shelf.old) (F.put_faults shelf.new) }
-
-    // Without a file the shelf stays; with one, its other files do.
-    ensures none { IsNone (made_shown product.now).file → shelf.new ≡ shelf.old }
-    ensures others { OthersStay (file_name (made_shown product.now).file) (F.held shelf.old) (F.held shelf.new) }
+// Puts the file of what is made, if there is one, and gives the job's own status, or that the put failed.
+fn place<F: Shelf>(finished: &Finished<'_>, shelf: &mut F) -> Status
+    ensures { Placed F.held F.asked F.put_faults shelf.old shelf.new (finished_shown finished.now).verdict
+        (finished_shown finished.now).file result }
 {
-    if write_text(product, out).is_err() {
-        return Status::WriteFault;
-    }
-    match put_file(product, shelf) {
-        Ok(()) => Status::Done,
+    match put_file(finished, shelf) {
+        Ok(()) => status_of(finished),
         Err(_) => Status::WriteFault,
+    }
+}
+
+// Writes and puts what is made.
+#[tactic(auto, using(crate::proofs::Delivery::delivered, crate::proofs::Delivery::undelivered))]
+fn deliver_finished<F: Shelf, K: Sink>(
+    finished: &Finished<'_>,
+    shelf: &mut F,
+    out: &mut K,
+) -> Status
+    ensures { Delivered F.held F.asked F.put_faults shelf.old shelf.new (K.written out.old) (K.written out.new)
+        (K.is_flushed out.new) (K.faults out.old) (K.faults out.new) (finished_shown finished.now) result }
+{
+    match write_text(finished, out) {
+        Ok(()) => place(finished, shelf),
+        Err(_) => Status::WriteFault,
+    }
+}
+
+// Makes a run while its trace is written, and then writes and puts the rest.
+fn deliver_traced<F: Shelf, K: Sink>(
+    run: TracedRun,
+    name: Option<String>,
+    shelf: &mut F,
+    out: &mut K,
+) -> Status
+    ensures { Delivered F.held F.asked F.put_faults shelf.old shelf.new (K.written out.old) (K.written out.new)
+        (K.is_flushed out.new) (K.faults out.old) (K.faults out.new)
+        (traced_shown (out_shown name) run.steps run.trial) result }
+{
+    let TracedRun { mut trial, steps } = run;
+    match write_traced(&mut trial, steps, out) {
+        Ok(()) => place(&Finished::Checked { trial, out: name }, shelf),
+        Err(_) => Status::WriteFault,
+    }
+}
+
+/// Writes the text that a job makes, and puts its file. The answer is Done, or Breach where the verdict is no, after the whole
+/// text has gone out and the file was put; or WriteFault: a write or the flush failed, after a prefix of the text, and then the
+/// shelf stays; or the put did, after the whole text has gone out. Without a file the shelf stays; with one, its other files do.
+pub fn deliver<F: Shelf, K: Sink>(product: Product<'_>, shelf: &mut F, out: &mut K) -> Status
+    ensures { Delivered F.held F.asked F.put_faults shelf.old shelf.new (K.written out.old) (K.written out.new)
+        (K.is_flushed out.new) (K.faults out.old) (K.faults out.new) (made_shown product.entry) result }
+{
+    match product {
+        Product::Finished(finished) => deliver_finished(&finished, shelf, out),
+        Product::Traced { run, out: name } => deliver_traced(run, name, shelf, out),
     }
 }

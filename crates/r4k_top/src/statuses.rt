@@ -5,23 +5,20 @@ ghost use Rattle.arrayvec.specs.ArrayVec.{array_vec_len};
 ghost use Rattle.r4_ports.specs.Told.{Appended, AppendedPrefix, HasCause, Rose};
 ghost use Rattle.r4k_top.specs.StatusText as law;
 
+use access_trace::Breach;
 use elf_image::ImageRule;
+use input_script::ScriptWhy;
 use mips_text::AsmWhy;
 use r4_ports::{Sink, SinkFault, write_all};
 use r4_words::{Line, Memory, put_dec, put_text};
-
-/// What is not built yet.
-#[derive(Clone, Copy)]
-pub enum Part {
-    /// A load, store, fetch or cache operation: one through the caches, or at a device register that is not built.
-    Access,
-}
 
 /// How the program ended.
 #[derive(Clone, Copy)]
 pub enum Status {
     /// The job is complete.
     Done,
+    /// The job is complete, and the verdict is no: the first event that breaks a rule, numbered from 0, and the rule.
+    Breach { event: u64, breach: Breach },
     /// The words are no command.
     Usage,
     /// A file could not be read.
@@ -30,14 +27,16 @@ pub enum Status {
     WriteFault,
     /// The image breaks this rule, at this offset in its file; it is the first rule that it breaks.
     BadImage { rule: ImageRule, offset: u32 },
+    /// The script is refused: its first bad line, numbered from 1, and the first reason that holds for it.
+    BadScript { line: u32, why: ScriptWhy },
     /// The source is refused: its first bad line, numbered from 1, and the first reason that holds for it.
     BadSource { line: u32, why: AsmWhy },
     /// There was not enough memory.
     Memory,
+    /// The trace has this first line outside its grammar, numbered from 1; or it lacks its end, behind its last line.
+    BadTrace { line: u32 },
     /// A file has more bytes than its limit.
     TooLong,
-    /// The run met a part that is not built yet, at this tick, numbered from 0.
-    Unbuilt { tick: u32, part: Part },
 }
 
 impl From<Memory> for Status {
@@ -57,24 +56,16 @@ pub fn status_number(status: &Status) -> u8
 {
     match status {
         Status::Done => 0,
+        Status::Breach { .. } => 1,
         Status::Usage => 2,
         Status::ReadFault => 3,
         Status::WriteFault => 4,
         Status::BadImage { .. } => 5,
+        Status::BadScript { .. } => 6,
         Status::BadSource { .. } => 7,
         Status::Memory => 8,
+        Status::BadTrace { .. } => 9,
         Status::TooLong => 10,
-        Status::Unbuilt { .. } => 11,
-    }
-}
-
-// The name of a part.
-fn part_name(part: Part) -> &'static [u8]
-    ensures name { result.now ≡ law.part_name part }
-    ensures short { length result.now ≤ 6 }
-{
-    match part {
-        Part::Access => b"Access",
     }
 }
 
@@ -95,7 +86,19 @@ fn rule_name(rule: ImageRule) -> &'static [u8]
     }
 }
 
-// The name of a reason.
+// The name of a script's reason.
+fn script_why_name(why: ScriptWhy) -> &'static [u8]
+    ensures name { result.now ≡ law.script_why_name why }
+    ensures short { length result.now ≤ 6 }
+{
+    match why {
+        ScriptWhy::Line => b"Line",
+        ScriptWhy::Number => b"Number",
+        ScriptWhy::Order => b"Order",
+    }
+}
+
+// The name of a source's reason.
 fn why_name(why: AsmWhy) -> &'static [u8]
     ensures name { result.now ≡ law.why_name why }
     ensures short { length result.now ≤ 7 }
@@ -108,6 +111,45 @@ fn why_name(why: AsmWhy) -> &'static [u8]
         AsmWhy::NoLabel => b"NoLabel",
         AsmWhy::Align => b"Align",
     }
+}
+
+// The name of a breach.
+fn breach_name(breach: Breach) -> &'static [u8]
+    ensures name { result.now ≡ law.breach_name breach }
+    ensures short { length result.now ≤ 7 }
+{
+    match breach {
+        Breach::Forge => b"Forge",
+        Breach::Peek => b"Peek",
+        Breach::Unquiet => b"Unquiet",
+        Breach::Old => b"Old",
+        Breach::Owed => b"Owed",
+        Breach::Lost => b"Lost",
+    }
+}
+
+// The line of Breach.
+fn breach_line(event: u64, breach: Breach) -> Line
+    ensures text { result.items ≡ law.breach_line event breach }
+{
+    let mut line = Line::new();
+    put_text(b"Breach ", &mut line);
+    put_dec(event, &mut line);
+    put_text(b" ", &mut line);
+    put_text(breach_name(breach), &mut line);
+    put_text(b"\n", &mut line);
+    line
+}
+
+// The line of BadTrace.
+fn bad_trace_line(number: u32) -> Line
+    ensures text { result.items ≡ law.bad_trace_line number }
+{
+    let mut line = Line::new();
+    put_text(b"BadTrace ", &mut line);
+    put_dec(u64::from(number), &mut line);
+    put_text(b"\n", &mut line);
+    line
 }
 
 // The line of BadImage.
@@ -123,6 +165,19 @@ fn bad_image_line(rule: ImageRule, offset: u32) -> Line
     line
 }
 
+// The line of BadScript.
+fn bad_script_line(number: u32, why: ScriptWhy) -> Line
+    ensures text { result.items ≡ law.bad_script_line number why }
+{
+    let mut line = Line::new();
+    put_text(b"BadScript ", &mut line);
+    put_dec(u64::from(number), &mut line);
+    put_text(b" ", &mut line);
+    put_text(script_why_name(why), &mut line);
+    put_text(b"\n", &mut line);
+    line
+}
+
 // The line of BadSource.
 fn bad_source_line(number: u32, why: AsmWhy) -> Line
     ensures text { result.items ≡ law.bad_source_line number why }
@@ -132,19 +187,6 @@ fn bad_source_line(number: u32, why: AsmWhy) -> Line
     put_dec(u64::from(number), &mut line);
     put_text(b" ", &mut line);
     put_text(why_name(why), &mut line);
-    put_text(b"\n", &mut line);
-    line
-}
-
-// The line of Unbuilt.
-fn unbuilt_line(tick: u32, part: Part) -> Line
-    ensures text { result.items ≡ law.unbuilt_line tick part }
-{
-    let mut line = Line::new();
-    put_text(b"Unbuilt ", &mut line);
-    put_dec(u64::from(tick), &mut line);
-    put_text(b" ", &mut line);
-    put_text(part_name(part), &mut line);
     put_text(b"\n", &mut line);
     line
 }
@@ -165,14 +207,16 @@ fn status_line(status: &Status) -> Line
 {
     match status {
         Status::Done => line_of(b"Done\n"),
+        Status::Breach { event, breach } => breach_line(*event, *breach),
         Status::Usage => line_of(b"Usage\n"),
         Status::ReadFault => line_of(b"ReadFault\n"),
         Status::WriteFault => line_of(b"WriteFault\n"),
         Status::BadImage { rule, offset } => bad_image_line(*rule, *offset),
+        Status::BadScript { line, why } => bad_script_line(*line, *why),
         Status::BadSource { line, why } => bad_source_line(*line, *why),
         Status::Memory => line_of(b"Memory\n"),
+        Status::BadTrace { line } => bad_trace_line(*line),
         Status::TooLong => line_of(b"TooLong\n"),
-        Status::Unbuilt { tick, part } => unbuilt_line(*tick, *part),
     }
 }
 

@@ -19,6 +19,7 @@ pub record Shown : Type 0 where
   pub address : ℕ
   pub status : ℕ
   pub console : List ℕ
+  pub disk : List ℕ
 
 -- what a view shows
 abbrev pub shown_by : View → Shown
@@ -36,4 +37,5 @@ shown_by view = record {
   address = view.address;
   status = view.status;
   console = view.console.now;
+  disk = view.disk.now;
 }

@@ -112,8 +112,9 @@ fn write_console<K: Sink>(bytes: &[u8], out: &mut K, pending: &mut Pending)
     write_bytes(bytes, out, pending);
 }
 
-// The whole report.
-fn write_parts<K: Sink>(view: &View<'_>, out: &mut K, pending: &mut Pending)
+/// Writes the report of a state, unless a write failed before.
+pub fn put_report<K: Sink>(view: &View<'_>, out: &mut K, pending: &mut Pending)
+    requires { view.now.status ≤ 7 }
     ensures writes { Writes (stand K.written K.faults out.old pending.old)
         (stand K.written K.faults out.new pending.new) (report_of (shown_by view.now)) }
 {
@@ -138,6 +139,6 @@ pub fn write_report<K: Sink>(view: &View<'_>, out: &mut K) -> Result<(), SinkFau
     ensures cause { HasCause (K.faults out.old) (K.faults out.new) result }
 {
     let mut pending = Pending::new();
-    write_parts(view, out, &mut pending);
+    put_report(view, out, &mut pending);
     finish(out, &mut pending)
 }

@@ -26,4 +26,6 @@ pub struct View<'a> {
     pub status: u32,
     /// What the console has printed.
     pub console: &'a [u8],
+    /// The bytes of the disk, of which the report tells nothing.
+    pub disk: &'a [u8],
 }

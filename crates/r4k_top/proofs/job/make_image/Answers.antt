@@ -1,5 +1,5 @@
 -- The image comes of the one file that is wanted.
-use Rattle.std.proofs.Common.{◌∙◌, ℕ, List, [], Some, refl, ap, sym}
+use Rattle.std.proofs.Common.{◌∙◌, ℕ, List, [], Some, None, refl, ap, sym}
 use Rattle.elf_image.specs.Written.{image_of}
 use Rattle.r4k_top.specs.Command.{Assemble}
 use Rattle.r4k_top.specs.Wanted.{a_source}
@@ -8,7 +8,7 @@ use Rattle.r4k_top.proofs.Reading.{stopped_reading, all_accepted, made_of, of_to
 use Rattle.r4k_top.proofs.job.make_image.Goals as goal
 
 abbrev put_bytes_under : List ℕ → List ℕ → End
-put_bytes_under name bytes = Makes (record { text = []; file = Some (record { name = name; bytes = bytes }) })
+put_bytes_under name bytes = Makes (record { verdict = None; text = []; file = Some (record { name = name; bytes = bytes }) })
 
 pub returns-in_err-built-clause-stopped : goal.returns-in_err-built-clause-stopped
 returns-in_err-built-clause-stopped g c =

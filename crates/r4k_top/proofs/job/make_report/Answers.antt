@@ -1,32 +1,31 @@
--- The report comes of the one file that is wanted.
-use Rattle.std.proofs.Common.{◌∙◌, [], refl, ap, sym}
+-- The report comes of the files of the plan.
+use Rattle.std.proofs.Common.{◌∙◌, ap, sym}
 use Rattle.r4k_top.specs.Command.{Run}
-use Rattle.r4k_top.specs.Wanted.{an_image}
+use Rattle.r4k_top.specs.CommandShown.{plan_shown}
 use Rattle.r4k_top.specs.Outcome.{run_job}
-use Rattle.r4k_top.proofs.Reading.{stopped_reading, all_accepted, made_of, stopped_job, of_told, report_alone, handed_on, if_ok, if_err}
+use Rattle.r4k_top.proofs.Reading.{all_accepted, made_of, setup_told, disk_alone, handed_on, out_of_memory, if_ok, if_err}
 use Rattle.r4k_top.proofs.job.make_report.Goals as goal
 
-pub returns-in_err-image-clause-stopped : goal.returns-in_err-image-clause-stopped
-returns-in_err-image-clause-stopped g c =
-    handed_on _ _ c.in_err-image.field-0.0 c.from_residual.ensures.1
-    (stopped_reading (Run c.args.image.now c.args.steps) [] (an_image c.args.image.now) [] _ _ _ _ _ refl tt c.read_image_file.ensures.asked c.in_err-image.ensures.stopped)
+pub returns-in_err-out-clause-stopped : goal.returns-in_err-out-clause-stopped
+returns-in_err-out-clause-stopped g c =
+    handed_on _ _ c.in_err-out.field-0.0 c.from_residual-in_err-out.ensures.1
+    (out_of_memory _ _ _ _ _ _ c.in_ok-setup.ensures.asked c.in_err-out.ensures.stopped)
 
 pub returns-clause-made : goal.returns-clause-made
 returns-clause-made g c =
-    if_ok _ _ c.run_image.result
+    if_ok _ _ c.run_setup.result
     (λ product made.
     made_of _ _ _ _ _
-    (all_accepted (Run c.args.image.now c.args.steps) _ _ (c.in_ok-image.ensures.accepted, tt)
-    (λ files told. ap (run_job c.args.steps) (sym (of_told _ _ _ c.in_ok-image.ensures.file files told)) ∙ made))
-    (report_alone _ _ _ made) c.read_image_file.ensures.asked)
-    c.run_image.ensures.made
+    (all_accepted (Run (plan_shown c.args.plan.now)) _ _ c.in_ok-setup.ensures.accepted
+    (λ files told.
+    setup_told _ _ _ _ _ c.in_ok-setup.ensures.setup files told
+    ∙ ap (λ out. run_job c.args.plan.now.telling c.args.plan.now.shape c.args.plan.now.steps out c.in_ok-setup.setup.image c.in_ok-setup.setup.script c.in_ok-setup.setup.disk.items) (sym c.in_ok-out.ensures.name)
+    ∙ made))
+    (disk_alone _ _ _ _ _ _ _ _ made ∙ c.in_ok-out.ensures.name) c.in_ok-setup.ensures.asked)
+    c.run_setup.ensures.made
 
 pub returns-clause-stopped : goal.returns-clause-stopped
 returns-clause-stopped g c =
-    if_err _ _ c.run_image.result
-    (λ status stop.
-    stopped_job _ _ _ _ _ _ _
-    (all_accepted (Run c.args.image.now c.args.steps) _ (run_job c.args.steps c.in_ok-image.image) (c.in_ok-image.ensures.accepted, tt)
-    (λ files told. ap (run_job c.args.steps) (sym (of_told _ _ _ c.in_ok-image.ensures.file files told))))
-    c.read_image_file.ensures.asked stop)
-    c.run_image.ensures.stopped
+    if_err _ _ c.run_setup.result
+    (λ status is. out_of_memory _ _ _ _ _ _ c.in_ok-setup.ensures.asked is)
+    c.run_setup.ensures.stopped

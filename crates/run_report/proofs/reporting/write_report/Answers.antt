@@ -8,4 +8,4 @@ pub returns-clause-err : goal.returns-clause-err
 returns-clause-err g c =
     let stand_of = stand g.K.Sink.written g.K.Sink.faults in
     let fresh : IsFresh (stand_of c.args.out.now c.new-pending.result) = record { pending = c.new-pending.ensures.piece; failed = c.new-pending.ensures.failed } in
-    err_appended _ _ _ (report_of (shown_by c.args.view.now)) c.finish.result fresh c.write_parts.ensures.writes c.finish.ensures.writes c.finish.ensures.err
+    err_appended _ _ _ (report_of (shown_by c.args.view.now)) c.finish.result fresh c.put_report.ensures.writes c.finish.ensures.writes c.finish.ensures.err

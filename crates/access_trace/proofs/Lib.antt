@@ -1,0 +1,7 @@
+pub mod Splits
+pub mod Visible
+pub mod ReadBack
+pub mod FirstLine
+pub mod Collected
+pub mod WrittenTrace
+pub mod Facts

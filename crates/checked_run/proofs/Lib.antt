@@ -1,0 +1,3 @@
+pub mod Runs
+pub mod Written
+pub mod Read

@@ -1,0 +1,16 @@
+//! The arguments of a case: words with blanks between them.
+
+/// The word at an index, and an empty one where there is none.
+pub fn word_at(arguments: &str, index: usize) -> &str {
+    arguments.split(' ').nth(index).unwrap_or("")
+}
+
+/// The decimal number at an index.
+pub fn number_at(arguments: &str, index: usize) -> Option<u32> {
+    word_at(arguments, index).parse::<u32>().ok()
+}
+
+/// The hexadecimal number at an index.
+pub fn hex_at(arguments: &str, index: usize) -> Option<u32> {
+    u32::from_str_radix(word_at(arguments, index), 16).ok()
+}

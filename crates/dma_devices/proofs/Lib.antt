@@ -1,0 +1,2 @@
+pub mod CommandBeats
+pub mod InputsByTick

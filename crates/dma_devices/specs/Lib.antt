@@ -1,0 +1,5 @@
+pub mod ConsoleBytes
+pub mod DiskCommands
+pub mod RegisterTable
+pub mod DeviceSet
+pub mod RecordedInputs

@@ -1,0 +1,199 @@
+//! A shape, and the parts of an address on it.
+
+ghost use Rattle.std.specs.Prelude.{◌≡◌, ◌<◌, ◌≤◌, true};
+ghost use Rattle.r4_shape.specs.Address as address;
+ghost use Rattle.r4_shape.specs.Config.{block_field, config_of, size_field};
+ghost use Rattle.r4_shape.specs.Numbers.{HasPages, IsGroup, IsLine, IsPrim, IsShape, IsSize, colours, places, primary_alone, secondary_places, with_secondary};
+
+use std::marker::Model;
+
+/// The bytes of a page.
+const PAGE: u32 = 4096;
+
+/// A shape of the caches: one of those that have a name.
+#[derive(Clone, Copy)]
+pub struct Shape {
+    sc: bool,
+    prim: u32,
+    line: u32,
+    group: u32,
+    size: u32,
+}
+
+impl Model for Shape {
+    ghost use Rattle.r4_shape.specs.Numbers.{IsShape, Numbers};
+
+    ghost Value = { Numbers };
+
+    ghost view = { λ shape. record { sc = shape.sc; prim = shape.prim; line = shape.line; group = shape.group; size = shape.size } };
+
+    ghost invariant = { λ shape. IsShape (record { sc = shape.sc; prim = shape.prim; line = shape.line; group = shape.group; size = shape.size }) };
+
+    ghost inverse = { λ shape. record { sc = shape.sc; prim = shape.prim; line = shape.line; group = shape.group; size = shape.size } };
+}
+
+// What Config shows of a line of so many bytes.
+#[tactic(auto, using(crate::proofs::Fields::longest))]
+fn block_field(bytes: u32) -> u32
+    requires length { IsGroup bytes }
+    ensures field { result ≡ block_field bytes }
+{
+    match bytes {
+        16 => 0,
+        32 => 1,
+        64 => 2,
+        _ => 3,
+    }
+}
+
+// What Config shows of a primary cache of so many bytes.
+fn size_field(bytes: u32) -> u32
+    requires size { IsPrim bytes }
+    ensures field { result ≡ size_field bytes }
+{
+    match bytes {
+        4096 => 0,
+        8192 => 1,
+        _ => 2,
+    }
+}
+
+impl Shape {
+    /// Primary caches of `prim` bytes alone, in lines of `line` bytes.
+    pub fn primary_alone(prim: u32, line: u32) -> Shape
+        requires prim { IsPrim prim }
+        requires line { IsLine line }
+        ensures is { result ≡ primary_alone prim line }
+    {
+        Shape {
+            sc: false,
+            prim,
+            line,
+            group: 0,
+            size: 0,
+        }
+    }
+
+    /// Primary caches before a secondary cache of `size` bytes in lines of `group` bytes.
+    pub fn with_secondary(prim: u32, line: u32, group: u32, size: u32) -> Shape
+        requires prim { IsPrim prim }
+        requires line { IsLine line }
+        requires group { IsGroup group }
+        requires holds { line ≤ group }
+        requires size { IsSize size }
+        ensures is { result ≡ with_secondary prim line group size }
+    {
+        Shape {
+            sc: true,
+            prim,
+            line,
+            group,
+            size,
+        }
+    }
+
+    /// Whether there is a secondary cache.
+    pub fn sc(&self) -> bool
+        ensures is { result ≡ self.now.sc }
+        ensures shape { IsShape self.now }
+    {
+        self.sc
+    }
+
+    /// The bytes of each primary cache.
+    pub fn prim(&self) -> u32
+        ensures is { result ≡ self.now.prim }
+        ensures shape { IsShape self.now }
+        ensures pages { HasPages self.now }
+    {
+        self.prim
+    }
+
+    /// The bytes of a line of the primary caches.
+    pub fn line(&self) -> u32
+        ensures is { result ≡ self.now.line }
+        ensures shape { IsShape self.now }
+    {
+        self.line
+    }
+
+    /// The bytes of a line of the secondary cache, 0 where there is none.
+    pub fn group(&self) -> u32
+        ensures is { result ≡ self.now.group }
+        ensures shape { IsShape self.now }
+    {
+        self.group
+    }
+
+    /// The bytes of the secondary cache, 0 where there is none.
+    pub fn size(&self) -> u32
+        ensures is { result ≡ self.now.size }
+        ensures shape { IsShape self.now }
+    {
+        self.size
+    }
+
+    /// The index of a virtual address in the primary caches.
+    pub fn index(&self, va: u32) -> u32
+        ensures is { result ≡ address.index self.now va }
+        ensures place { result < places self.now }
+    {
+        va % self.prim / self.line
+    }
+
+    /// The colour of a virtual address.
+    pub fn colour(&self, va: u32) -> u32
+        ensures is { result ≡ address.colour self.now va }
+        ensures few { result < colours self.now }
+    {
+        va % self.prim / PAGE
+    }
+
+    /// The bits of a virtual address that the secondary cache keeps of a line.
+    pub fn pidx(&self, va: u32) -> u8
+        ensures is { result ≡ address.pidx va }
+        ensures few { result < 8 }
+    {
+        (va / PAGE % 8) as u8
+    }
+
+    /// The number of the primary line of an address in RAM.
+    pub fn granule(&self, pa: u64) -> u32
+        requires ram { pa < 8388608 }
+        ensures is { result ≡ address.granule self.now pa }
+    {
+        (pa / u64::from(self.line)) as u32
+    }
+
+    /// The number of the secondary line of an address in RAM.
+    pub fn group_of(&self, pa: u64) -> u32
+        requires secondary { self.now.sc ≡ true }
+        requires ram { pa < 8388608 }
+        ensures is { result ≡ address.group_of self.now pa }
+    {
+        (pa / u64::from(self.group)) as u32
+    }
+
+    /// The place of a physical address in the secondary cache.
+    pub fn place(&self, pa: u64) -> u32
+        requires secondary { self.now.sc ≡ true }
+        ensures is { result ≡ address.place self.now pa }
+        ensures place { result < secondary_places self.now }
+    {
+        (pa % u64::from(self.size) / u64::from(self.group)) as u32
+    }
+
+    /// The register Config at reset.
+    pub fn config(&self) -> u32
+        ensures is { result ≡ config_of self.now }
+    {
+        let block = block_field(self.line);
+        let size = size_field(self.prim);
+        let secondary = if self.sc {
+            block_field(self.group) << 22
+        } else {
+            1 << 17
+        };
+        3 + (block << 4) + (block << 5) + (size << 6) + (size << 9) + (1 << 15) + secondary
+    }
+}

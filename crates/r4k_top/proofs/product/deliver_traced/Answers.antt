@@ -1,0 +1,11 @@
+-- The text, while the run is made, and then the file.
+use Rattle.r4k_top.proofs.Delivery.{delivered, undelivered, placed_traced}
+use Rattle.r4k_top.proofs.product.deliver_traced.Goals as goal
+
+pub returns-in-Ok : goal.returns-in-Ok
+returns-in-Ok g c =
+    delivered _ _ _ _ _ _ _ _ _ _ _ _ c.in-Ok.ensures.ok c.in-Ok.ensures.flushed
+    (placed_traced _ _ _ _ _ _ _ _ _ _ c.in-Ok.ensures.whole c.place.ensures)
+
+pub returns-in-Err : goal.returns-in-Err
+returns-in-Err g c = undelivered _ _ _ _ _ _ _ _ _ _ c.in-Err.ensures.err c.in-Err.ensures.cause.on_err

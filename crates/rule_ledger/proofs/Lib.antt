@@ -1,0 +1,11 @@
+pub mod Meeting
+pub mod Placing
+pub mod Grids
+pub mod Replacing
+pub mod Ageing
+pub mod Rows
+pub mod Starting
+pub mod Indexes
+pub mod Kept
+pub mod Consistent
+pub mod AnyEvent

@@ -1,0 +1,85 @@
+-- A ledger as it is made: its cells are placed as its shape wants, and there is no fact.
+use Rattle.std.proofs.Common.{◌&&◌, ◌≡◌, ℕ, ◌-◌, ◌*◌, ◌/◌, Bool, false, get_or, replicate, refl, ap, ◌∙◌, inl, inr, arith}
+use Rattle.std.proofs.Math.Path.{fun_ext}
+use Rattle.std.proofs.lemmas.Bool.{cases_lt, and_right}
+use Rattle.std.proofs.lemmas.List.{get_or-replicate, get_or_past, length-replicate}
+use Rattle.ledger_table.specs.Table.{no_marks}
+use Rattle.r4_shape.specs.Numbers.{Numbers, IsShape}
+use Rattle.rule_ledger.specs.Facts.{nowhere, no_facts}
+use Rattle.rule_ledger.specs.Cells.{Grid, grid_of}
+use Rattle.rule_ledger.specs.Kept.{ArePlaced, IsTableOf}
+use Rattle.rule_ledger.specs.Marks.{place_of, is_inside, flagged, said_by, has_held, has_dirty, has_old, has_iheld, has_iold}
+
+pub placed_is : (shape : Numbers) (prim_bits line_bits : ℕ) → IsShape shape → (shape.line ≡ 16 → line_bits ≡ 4) → (shape.line ≡ 32 → line_bits ≡ 5) → (shape.prim ≡ 8192 → prim_bits ≡ 13)
+    → ArePlaced shape prim_bits line_bits (12 - line_bits) (shape.prim / 4096) (shape.prim / shape.line)
+placed_is shape prim_bits line_bits is narrow wide small = elim is.line [
+  | inl l ↦ (let b = narrow l in record {
+    prim = rw (c, p) refl;
+    prim_most = rw c (omega arith);
+    pages = rw p refl;
+    cache = rw (l, p) refl;
+    indexes = rw (l, p) refl;
+    ram = rw l refl;
+    line = rw (b, l) refl;
+    line_most = rw b (omega arith);
+    line_least = rw b (omega arith);
+    page = rw (b, l) refl;
+    page_most = rw b (omega arith);
+    colours = refl;
+    some = rw p (omega arith);
+    few = rw p (omega arith);
+    lines = rw (l, p) refl;
+    lines_most = rw (l, p) (omega arith);
+    whole = rw l refl;
+    whole_most = rw l (omega arith);
+  })
+  | inr l ↦ (let b = wide l in record {
+    prim = rw (c, p) refl;
+    prim_most = rw c (omega arith);
+    pages = rw p refl;
+    cache = rw (l, p) refl;
+    indexes = rw (l, p) refl;
+    ram = rw l refl;
+    line = rw (b, l) refl;
+    line_most = rw b (omega arith);
+    line_least = rw b (omega arith);
+    page = rw (b, l) refl;
+    page_most = rw b (omega arith);
+    colours = refl;
+    some = rw p (omega arith);
+    few = rw p (omega arith);
+    lines = rw (l, p) refl;
+    lines_most = rw (l, p) (omega arith);
+    whole = rw l refl;
+    whole_most = rw l (omega arith);
+  })
+]
+  where
+    p : shape.prim ≡ 8192
+    p = is.prim
+
+    c : prim_bits ≡ 13
+    c = small is.prim
+
+no_mark : (n k : ℕ) → get_or (no_marks n) k 0 ≡ 0
+unfolding no_marks
+no_mark n k = elim (cases_lt k n) [
+  | inl lt ↦ get_or-replicate n k 0 0 lt
+  | inr ge ↦ get_or_past (replicate n 0) k 0 (rw length-replicate ge)
+]
+
+flagged_nowhere : (flag : ℕ → Bool) (grid : Grid) (n : ℕ) → flag 0 ≡ false → flagged flag grid (no_marks n) ≡ nowhere
+flagged_nowhere flag grid n none = fun_ext (λ g. fun_ext (λ c. ap (λ m. is_inside grid g c && flag m) (no_mark n (place_of grid g c)) ∙ and_right (is_inside grid g c) (flag 0) none))
+
+pub no_facts_is : (grid : Grid) (n m : ℕ) → said_by grid (no_marks n) (no_marks m) ≡ no_facts
+no_facts_is grid n m =
+    let held = flagged_nowhere has_held grid n refl in
+    let dirty = flagged_nowhere has_dirty grid n refl in
+    let old = flagged_nowhere has_old grid n refl in
+    let iheld = flagged_nowhere has_iheld grid m refl in
+    let iold = flagged_nowhere has_iold grid m refl in
+    λ i. record { held = held i; dirty = dirty i; old = old i; iheld = iheld i; iold = iold i }
+
+pub table_is : (shape : Numbers) (rows : ℕ) → rows ≡ (grid_of shape).page * (grid_of shape).colours → IsTableOf shape (record { rows = rows; marks = no_marks ((grid_of shape).whole * (grid_of shape).colours) })
+unfolding no_marks
+table_is shape rows e = record { rows = e; len = length-replicate _ 0 }

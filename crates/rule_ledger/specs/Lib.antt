@@ -1,0 +1,9 @@
+pub mod Facts
+pub mod Cells
+pub mod Rules
+pub mod Operations
+pub mod Events
+pub mod Marks
+pub mod MarkFlags
+pub mod Kept
+pub mod Steps

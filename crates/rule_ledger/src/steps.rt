@@ -1,0 +1,141 @@
+//! A step of the ledger: an event is held against the rules.
+
+ghost use Rattle.std.specs.Prelude.{◌≡◌, ◌<◌, ◌≤◌, ◌+◌, ◌%◌, OnSome, IfNone};
+ghost use Rattle.access_trace.specs.Grammar.{IsEvent, is_beat};
+ghost use Rattle.r4_shape.specs.Address.{colour, granule, index};
+ghost use Rattle.r4_shape.specs.Numbers.{colours, places};
+ghost use Rattle.rule_ledger.specs.Cells.{grid_of};
+ghost use Rattle.rule_ledger.specs.Events.{access_row, beat_granules, breach_of, facts_after, hit_row, index_row, operation_row, row_of, where_in_ram};
+ghost use Rattle.rule_ledger.specs.Facts.{at_index};
+ghost use Rattle.rule_ledger.specs.Marks.{facts_of};
+ghost use Rattle.rule_ledger.specs.Operations.{operation_of};
+ghost use Rattle.rule_ledger.specs.Rules as rule;
+ghost use Rattle.rule_ledger.specs.Steps.{Follows};
+
+use crate::ledger::PcLedger;
+use crate::operations::{HitOperation, IndexOperation, Operation};
+use access_trace::{Breach, Event, EventKind};
+
+impl PcLedger {
+    // An access through the caches, or past them.
+    #[inline]
+    fn access(&mut self, event: &Event) -> Option<Breach>
+        requires ram { event.now.pa < 8388608 }
+        requires grammar { IsEvent event.now }
+        ensures { let shape = self.old.shape in
+            let g = granule shape event.now.pa in
+            let c = colour shape event.now.va in
+            Follows (access_row event.now.kind event.now.cached g c (beat_granules shape)) self.old self.new result }
+    {
+        let granule = self.granule(event.pa);
+        let colour = self.colour(event.va);
+        match event.kind {
+            EventKind::Load if event.cached => self.load(granule, colour),
+            EventKind::Store if event.cached => self.store(granule, colour),
+            EventKind::Fetch if event.cached => self.fetch(granule, colour),
+            EventKind::Load | EventKind::Fetch => self.read_past(granule, 1),
+            EventKind::Store => self.write_past(granule, 1),
+            EventKind::BeatOut => {
+                let count = self.beat_granules(event.pa);
+                self.read_past(granule, count)
+            }
+            EventKind::BeatIn => {
+                let count = self.beat_granules(event.pa);
+                self.write_past(granule, count)
+            }
+            EventKind::Cache => None,
+        }
+    }
+
+    // An operation on an index.
+    fn operate_at(&mut self, operation: IndexOperation, index: u32) -> Option<Breach>
+        requires { index < places self.old.shape }
+        ensures { Follows (index_row operation (at_index (grid_of self.old.shape).page index)) self.old self.new result }
+    {
+        match operation {
+            IndexOperation::InvalidateI => self.invalidate_index_i(index),
+            IndexOperation::WritebackInvalidateD => self.writeback_invalidate_index_d(index),
+            IndexOperation::StoreTagD => self.store_tag_d(index),
+        }
+    }
+
+    // An operation on the line of a granule.
+    fn operate_on(&mut self, operation: HitOperation, granule: u32, colour: u32) -> Option<Breach>
+        requires granule { granule < (grid_of self.old.shape).whole }
+        requires colour { colour < colours self.old.shape }
+        ensures { Follows (hit_row operation granule colour) self.old self.new result }
+    {
+        match operation {
+            HitOperation::HitInvalidateI => self.hit_invalidate_i(granule, colour),
+            HitOperation::HitInvalidateD => self.hit_invalidate_d(granule, colour),
+            HitOperation::FillI => self.fill_i(granule, colour),
+            HitOperation::HitWritebackInvalidateD => self.hit_writeback_invalidate_d(
+                granule, colour,
+            ),
+            HitOperation::HitWritebackD => self.hit_writeback_d(granule, colour),
+        }
+    }
+
+    // An operation on the line of an address, which does nothing outside RAM.
+    fn hit(&mut self, operation: HitOperation, event: &Event) -> Option<Breach>
+        ensures { let shape = self.old.shape in
+            let row = hit_row operation (granule shape event.now.pa) (colour shape event.now.va) in
+            Follows (where_in_ram event.now.pa row) self.old self.new result }
+    {
+        if event.pa < 8388608 {
+            let granule = self.granule(event.pa);
+            let colour = self.colour(event.va);
+            self.operate_on(operation, granule, colour)
+        } else {
+            None
+        }
+    }
+
+    // A CACHE operation.
+    fn operate(&mut self, event: &Event) -> Option<Breach>
+        ensures { let operation = operation_of event.now.size event.now.value in
+            Follows (operation_row operation self.old.shape event.now.va event.now.pa) self.old self.new result }
+    {
+        match Operation::from_code(event.size, event.value) {
+            Operation::Index(operation) => {
+                let index = self.index(event.va);
+                self.operate_at(operation, index)
+            }
+            Operation::Hit(operation) => self.hit(operation, event),
+            Operation::Forge => Some(Breach::Forge),
+            Operation::Peek => Some(Breach::Peek),
+            Operation::Nothing => None,
+        }
+    }
+
+    // Holds an event against its row of the table of rules.
+    #[inline]
+    fn hold(&mut self, event: &Event) -> Option<Breach>
+        requires { IsEvent event.now }
+        ensures { Follows (row_of self.old.shape event.now) self.old self.new result }
+    {
+        match event.kind {
+            EventKind::Cache => self.operate(event),
+            _ if event.pa < 8388608 => self.access(event),
+            _ => None,
+        }
+    }
+
+    /// Holds an event against the rules, and answers the first one that it breaks.
+    #[inline]
+    pub fn step(&mut self, event: &Event) -> Option<Breach>
+        requires grammar { IsEvent event.now }
+        requires steps { self.old.steps < 18446744073709551615 }
+        ensures breach { result ≡ breach_of self.old.shape (facts_of self.old) event.now }
+        ensures facts { facts_of self.new ≡ facts_after self.old.shape (facts_of self.old) event.now result }
+        ensures stays { OnSome result (self.new ≡ self.old) }
+        ensures steps { IfNone result (self.new.steps ≡ self.old.steps + 1) }
+        ensures shape { self.new.shape ≡ self.old.shape }
+    {
+        let breach = self.hold(event);
+        if breach.is_none() {
+            self.count_step();
+        }
+        breach
+    }
+}
