@@ -22,14 +22,14 @@ use Rattle.cache_ops.specs.declared.operations.Operation.TheVariants.{IndexInval
 
 -- ---- codes
 
--- A row of the table of codes: bits 20 to 18 of the instruction word tell the operation, bits 17 and 16 the cache.
-pub record Row : Type 0 where
+-- An entry of the table of codes: bits 20 to 18 of the instruction word tell the operation, bits 17 and 16 the cache.
+pub record Entry : Type 0 where
   pub operation : ℕ
   pub cache : ℕ
   pub name : Operation
 
-abbrev row : ℕ → ℕ → Operation → Row
-row operation cache name = record { operation = operation; cache = cache; name = name }
+abbrev entry : ℕ → ℕ → Operation → Entry
+entry operation cache name = record { operation = operation; cache = cache; name = name }
 
 -- the two primary caches
 abbrev i_cache : ℕ
@@ -38,30 +38,30 @@ i_cache = 0
 abbrev d_cache : ℕ
 d_cache = 1
 
-abbrev pub rows : List Row
-rows =
-    row 0 i_cache IndexInvalidateI
-    ∷ row 0 d_cache IndexWritebackInvalidateD
-    ∷ row 1 i_cache IndexLoadTagI
-    ∷ row 1 d_cache IndexLoadTagD
-    ∷ row 2 i_cache IndexStoreTagI
-    ∷ row 2 d_cache IndexStoreTagD
-    ∷ row 3 d_cache CreateDirtyExclusiveD
-    ∷ row 4 i_cache HitInvalidateI
-    ∷ row 4 d_cache HitInvalidateD
-    ∷ row 5 i_cache FillI
-    ∷ row 5 d_cache HitWritebackInvalidateD
-    ∷ row 6 i_cache HitWritebackI
-    ∷ row 6 d_cache HitWritebackD
+abbrev pub entries : List Entry
+entries =
+    entry 0 i_cache IndexInvalidateI
+    ∷ entry 0 d_cache IndexWritebackInvalidateD
+    ∷ entry 1 i_cache IndexLoadTagI
+    ∷ entry 1 d_cache IndexLoadTagD
+    ∷ entry 2 i_cache IndexStoreTagI
+    ∷ entry 2 d_cache IndexStoreTagD
+    ∷ entry 3 d_cache CreateDirtyExclusiveD
+    ∷ entry 4 i_cache HitInvalidateI
+    ∷ entry 4 d_cache HitInvalidateD
+    ∷ entry 5 i_cache FillI
+    ∷ entry 5 d_cache HitWritebackInvalidateD
+    ∷ entry 6 i_cache HitWritebackI
+    ∷ entry 6 d_cache HitWritebackD
     ∷ []
 
--- the five bits of a row
-abbrev pub code_of : Row → ℕ
-code_of r = r.operation * 4 + r.cache
+-- the five bits of an entry
+abbrev pub code_of : Entry → ℕ
+code_of e = e.operation * 4 + e.cache
 
 -- the operation of a code, if the code has one
 abbrev pub operation_of : ℕ → Option Operation
-operation_of code = option_map (λ r. r.name) (find (λ r. code_of r == code) rows)
+operation_of code = option_map (λ e. e.name) (find (λ e. code_of e == code) entries)
 
 -- ---- what an operation works on: the addresses, and the value of TagLo before it
 

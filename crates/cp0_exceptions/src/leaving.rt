@@ -8,7 +8,7 @@ use cp0_regs::fields::{ERL, EXL};
 use cp0_regs::registers::{EPC, ERROR_EPC};
 
 /// Leaves an error, or else an exception: what becomes of CP0, and the pc to which it goes back.
-#[tactic(auto, using(cp0_regs::proofs::Possible::erl_is_free, cp0_regs::proofs::Possible::exl_is_free), unfolding(crate::specs::Leaving::left, crate::specs::Leaving::return_of))]
+#[tactic(auto, using(cp0_regs::proofs::Possible::free_levels), unfolding(crate::specs::Leaving::left, crate::specs::Leaving::return_of))]
 pub fn leave(cp0: &mut Cp0) -> u32
     ensures left { cp0.new ≡ law.left cp0.old }
     ensures back { result ≡ law.return_of cp0.old }

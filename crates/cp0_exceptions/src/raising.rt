@@ -64,7 +64,7 @@ fn set_unit(cp0: &mut Cp0, code: u8, unit: u8)
 // Shows the page of an address.
 #[tactic(auto, using(cp0_regs::proofs::Possible::bad_vpn2_is_free, cp0_regs::proofs::Possible::vpn2_is_free))]
 fn show_page(cp0: &mut Cp0, address: u32)
-    ensures shown { cp0.new ≡ with_value (with_value cp0.old fields.bad_vpn2 (law.page_pair address)) fields.vpn2 (law.page_pair address) }
+    ensures shown { let pair = law.page_pair address in cp0.new ≡ with_value (with_value cp0.old fields.bad_vpn2 pair) fields.vpn2 pair }
 {
     let pair = address >> 13;
     cp0.set_field(BAD_VPN2, pair);
@@ -108,7 +108,7 @@ fn vector_of(cp0: &Cp0, refill: bool) -> u32
 
 /// Takes an exception at an instruction, which stands in a delay slot or does not: what becomes of CP0, and the pc to
 /// which it leads.
-#[tactic(auto, using(cp0_regs::proofs::Possible::exc_code_is_free, cp0_regs::proofs::Possible::exl_is_free), unfolding(crate::specs::Raising::raised))]
+#[tactic(auto, using(cp0_regs::proofs::Possible::free_cause_and_level), unfolding(crate::specs::Raising::raised))]
 pub fn raise(cp0: &mut Cp0, what: &Raised, pc: u32, slot: bool) -> u32
     requires what { IsRaised what.now }
     ensures raised { cp0.new ≡ law.raised cp0.old what.now pc slot }

@@ -68,6 +68,11 @@ pub erl_is_free : IsFree erl
 unfolding possible_bits
 erl_is_free = free erl (omega arith) (omega arith) (omega arith) refl (λ same. omega arith) (λ same. omega arith)
 
+-- the fields that the levels EXL and ERL are, and those that say that an exception was taken and why
+pub ruleset free_levels = (exl_is_free, erl_is_free)
+
+pub ruleset free_cause_and_level = (exc_code_is_free, exl_is_free)
+
 pub bad_vpn2_is_free : IsFree bad_vpn2
 unfolding possible_bits
 bad_vpn2_is_free = free bad_vpn2 (omega arith) (omega arith) (omega arith) refl (λ same. omega arith) (λ same. omega arith)

@@ -8,7 +8,8 @@ use Rattle.std.specs.List.{list_any, list_all}
 use Rattle.cp0_regs.specs.Bits.{HasOnly, merged}
 use Rattle.cp0_regs.specs.PageMasks.{IsMask, page_masks}
 use Rattle.cp0_regs.specs.Registers.{register_of, written_bits, written_in}
-use Rattle.cp0_regs.proofs.Masking.{merged_none, merged_all}
+use Rattle.cp0_regs.proofs.Masking.{merged_none, merged_all, merged_only}
+use Rattle.cp0_regs.proofs.Possible.{written_possible, timer_line_is_free, pair_possible}
 
 -- what is one of some numbers that all pass a test passes it
 any_passes : (pass : ℕ → Bool) (number : ℕ) (numbers : List ℕ) → list_all pass numbers ≡ true → list_any (λ other. number == other) numbers ≡ true → pass number ≡ true
@@ -45,3 +46,6 @@ write_is_lost cp0 number value unlisted small =
     ap (slice_set cp0 number)
     (ap (λ mask. merged mask (slice_index cp0 number) value) (ap written_in unlisted) ∙ merged_none (slice_index cp0 number) value small)
     ∙ set-get_or cp0 number 0
+
+-- what a write by software rests on: the bits that it leaves can stand in its register, and the registers keep what they keep
+pub ruleset software_write = (merged_only, written_possible, timer_line_is_free, pair_possible, random_stays, mask_taken, write_is_lost)

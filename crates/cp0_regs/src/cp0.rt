@@ -109,7 +109,7 @@ impl Cp0 {
     }
 
     /// What MTC0 does.
-    #[tactic(auto, using(crate::proofs::Masking::merged_only, crate::proofs::Possible::written_possible, crate::proofs::Possible::timer_line_is_free, crate::proofs::Possible::pair_possible, crate::proofs::Writes::random_stays, crate::proofs::Writes::mask_taken, crate::proofs::Writes::write_is_lost), unfolding(crate::specs::Moves::written))]
+    #[tactic(auto, using(crate::proofs::Writes::software_write), unfolding(crate::specs::Moves::written))]
     pub fn write(&mut self, number: u8, value: u32)
         requires number { number < 32 }
         ensures written { self.new ≡ moves.written self.old number value }

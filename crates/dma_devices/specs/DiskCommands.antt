@@ -129,7 +129,8 @@ no_beat disk ram = record { disk = disk; ram = ram; beat = None }
 -- the command after its next beat was made: it goes on while beats are left
 abbrev pub gone_on : DiskState → Command → DiskState
 gone_on disk command =
-    if nat_lt (command.made + 1) (length (transfers_of command)) then record disk { command = Some (record command { made = command.made + 1 }) }
+    if nat_lt (command.made + 1) (length (transfers_of command))
+    then record disk { command = Some (record command { made = command.made + 1 }) }
     else record disk { command = None; done = true }
 
 -- a beat of a command is made

@@ -46,6 +46,9 @@ pub none_broken : (bytes : List ℕ) → short_fault bytes ≡ None → magic_fa
 unfolding image_fault
 none_broken bytes short magic class machine kind table range entry = rw (short, magic, class, machine, kind, table, range, entry) refl
 
+-- what tells the fault of an image from the answers of its rules in turn
+pub ruleset rule_by_rule = (broken_short, broken_magic, broken_class, broken_machine, broken_kind, broken_table, broken_range, broken_entry, none_broken)
+
 AllKept : List (Option ImageFault) → Type 0
 AllKept [] = Unit {0}
 AllKept (rule ∷ rules) = (rule ≡ None) × AllKept rules
@@ -92,6 +95,9 @@ none_mapped (Some at) is = absurd (cc)
 pub accepted_range : (bytes : List ℕ) → image_fault bytes ≡ None → find (breaks_range bytes) (headers_of bytes) ≡ None
 unfolding range_fault
 accepted_range bytes is = none_mapped _ (keeps_rules bytes is).range
+
+-- where the table of an accepted image lies, and what its headers keep
+pub ruleset accepted_headers = (accepted_table, accepted_range)
 
 -- an image's program headers lie in the file, and are in range
 pub accepted_header : (bytes : List ℕ) (table at count index : ℕ) → image_fault bytes ≡ None → table ≡ table_of bytes → count ≡ count_of bytes → index < count → at ≡ table + 32 * index →

@@ -49,7 +49,7 @@ fn store_all(bytes: &[u8], table: usize, count: usize, ram: &mut Ram)
 
 /// Stores the image's segments at their places in RAM, in the order of their headers, each followed by zeros up to its
 /// size in memory. All other bytes stay.
-#[tactic(auto, unfolding(crate::specs::Loading::loaded), using(crate::proofs::Accepted::accepted_table, crate::proofs::Accepted::accepted_range))]
+#[tactic(auto, unfolding(crate::specs::Loading::loaded), using(crate::proofs::Accepted::accepted_headers))]
 pub fn load(image: &Image<'_>, ram: &mut Ram)
     ensures { ram.new ≡ law.loaded image.now ram.old }
 {

@@ -100,7 +100,7 @@ fn file_bytes(bytes: &[u8], at: usize) -> &[u8]
     part(bytes, segment.offset as usize, segment.file_size as usize)
 }
 
-#[tactic(auto, using(crate::proofs::Accepted::broken_short, crate::proofs::Accepted::broken_magic, crate::proofs::Accepted::broken_class, crate::proofs::Accepted::broken_machine, crate::proofs::Accepted::broken_kind, crate::proofs::Accepted::broken_table, crate::proofs::Accepted::broken_range, crate::proofs::Accepted::broken_entry, crate::proofs::Accepted::none_broken))]
+#[tactic(auto, using(crate::proofs::Accepted::rule_by_rule))]
 fn check(bytes: &[u8]) -> Result<(), ImageFault>
     requires { length bytes.now ≤ 4294967294 }
     ensures { law.IsCheckOf (law.image_fault bytes.now) result }

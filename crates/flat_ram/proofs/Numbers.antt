@@ -1,11 +1,11 @@
 -- Numbers of so many bytes.
-use Rattle.std.proofs.Common.{◌≡◌, ℕ, zero, suc, ◌+◌, ◌-◌, ◌*◌, ◌%◌, ◌^◌, ◌<◌, ◌≤◌, List, [], ◌∷◌, ◌++◌, length, take, drop, fold, slice_index, get_or, refl, sym, ap, ◌∙◌, arith, pow-suc, mul_comm, length-drop}
+use Rattle.std.proofs.Common.{◌≡◌, ℕ, zero, suc, ◌+◌, ◌-◌, ◌*◌, ◌%◌, ◌^◌, ◌<◌, ◌≤◌, List, [], ◌∷◌, length, take, drop, fold, slice_index, get_or, refl, sym, ap, ◌∙◌, arith, pow-suc, mul_comm, length-drop}
 use Rattle.std.proofs.Math.Nat.{pow-le-pow_right}
 use Rattle.std.proofs.lemmas.List.{drop_more, take_more, take_all, get_or-drop}
 use Rattle.std.proofs.lemmas.List.Sums.{fold-append}
 use Rattle.std.specs.Int.{bytes_high_first}
 use Rattle.byteorder.specs.Endian.{big_from, big_number}
-use Rattle.flat_ram.specs.Bytes.{number_at, number_of_bytes, bytes_at}
+use Rattle.flat_ram.specs.Bytes.{number_at, number_of_bytes}
 
 -- the number that goes on with the bytes from a place on
 goes_on : (count at high : ℕ) (all : List ℕ) → at + count ≤ length all
@@ -43,6 +43,9 @@ room_for_more number place few fits = let most : 256 ^ place ≤ 256 ^ 7 = pow-l
 
 pub power_more : (count : ℕ) → 256 ^ (count + 1) ≡ 256 ^ count * 256
 power_more count = let same : count + 1 ≡ suc count = omega arith in ap (λ n. 256 ^ n) same ∙ pow-suc 256 count
+
+-- what a loop needs that reads a number byte by byte
+pub ruleset byte_by_byte = (number_none, number_more, power_more, room_for_more)
 
 -- the low bytes of a number among all its eight
 pub length_bytes : (count number : ℕ) → length (bytes_high_first count number) ≡ count

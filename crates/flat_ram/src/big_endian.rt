@@ -21,7 +21,7 @@ pub fn word_at(bytes: &[u8], at: usize) -> u32
 }
 
 // The number in so many bytes, byte by byte.
-#[tactic(auto, using(crate::proofs::Numbers::number_none, crate::proofs::Numbers::number_more, crate::proofs::Numbers::power_more, crate::proofs::Numbers::room_for_more))]
+#[tactic(auto, using(crate::proofs::Numbers::byte_by_byte))]
 fn number_by_bytes(bytes: &[u8], at: usize, count: usize) -> u64
     requires most { count ≤ 8 }
     requires room { at + count ≤ length bytes.now }

@@ -22,7 +22,8 @@ word_line address word = hex_of 8 address ++ codes " " ++ hex_of 8 word ++ codes
 -- the lines of bytes that begin at an address, whether it is a multiple of 4 or not: a line for each four bytes, which
 -- are a word with the high byte first; a rest of fewer than four bytes has no line
 abbrev pub word_lines : ℕ → List ℕ → List ℕ
-word_lines address (a ∷ b ∷ c ∷ d ∷ rest) = word_line address (word_at (a ∷ b ∷ c ∷ d ∷ []) 0) ++ word_lines (address + 4) rest
+word_lines address (a ∷ b ∷ c ∷ d ∷ rest) =
+    word_line address (word_at (a ∷ b ∷ c ∷ d ∷ []) 0) ++ word_lines (address + 4) rest
 word_lines address rest = []
 
 -- the lines of a segment: those of the bytes that the file has of it, from its virtual address on. Segments of other

@@ -4,6 +4,7 @@ use Rattle.std.specs.Prelude.{◌≡◌, ℕ, suc, ◌+◌, ◌*◌, ◌/◌, �
 use Rattle.flat_ram.specs.Bytes.{bytes_at}
 use Rattle.r4_shape.specs.Numbers.{Numbers, IsShape}
 use Rattle.primary_caches.specs.declared.tag_array.Tag.{Tag}
+use Rattle.primary_caches.specs.Tag.{tag_at}
 use Rattle.primary_caches.specs.TagLists.{TagLists, IsFull}
 use Rattle.line_moves.specs.declared.places.Side.{Side}
 use Rattle.line_moves.specs.declared.places.Side.TheVariants.{I, D}
@@ -24,6 +25,10 @@ with_tag D index tag t = record t { d = slice_set t.d index tag }
 abbrev pub dirtied : Tag → Tag
 dirtied tag = record tag { dirty = true }
 
+-- the tags where the line at a place was written
+abbrev pub with_dirty : Place → TagLists → TagLists
+with_dirty p t = with_tag p.side p.index (dirtied (tag_at (tags_of p.side t) p.index)) t
+
 -- where the bytes of a side begin, those of the data cache first, and where those of a place begin
 abbrev pub base_of : Side → Numbers → ℕ
 base_of I shape = shape.prim
@@ -35,7 +40,8 @@ start_of p shape = base_of p.side shape + p.index * shape.line
 -- the line that a tag and bytes make at an index: the tag has the page of its address, and the index its place in the page
 abbrev pub line_of : ℕ → ℕ → Tag → List ℕ → Option Line
 line_of size index tag bytes =
-    if tag.valid then Some (record { number = tag.page * (4096 / size) + index % (4096 / size); dirty = tag.dirty; pidx = 0; bytes = bytes }) else None
+    let number = tag.page * (4096 / size) + index % (4096 / size) in
+    if tag.valid then Some (record { number = number; dirty = tag.dirty; pidx = 0; bytes = bytes }) else None
 
 -- the lines of a side, from an index on, whose bytes begin at a base
 unfoldable pub side_lines : ℕ → ℕ → ℕ → List Tag → List ℕ → List (Option Line)

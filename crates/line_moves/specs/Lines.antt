@@ -3,9 +3,9 @@
 -- Source: MIPS R4000 Microprocessor User's Manual, 2nd edition (Heinrich), chapter 11, "Organization of the Primary Instruction
 -- Cache", "Organization of the Primary Data Cache" and "Accessing the Primary Caches".
 use Rattle.std.specs.Prelude.{◌≡◌, ℕ, ◌*◌, ◌/◌, ◌%◌, ◌==◌, Bool, true, false, List, [], length, Option, Some, None, replicate, slice_index_or, slice_set}
-use Rattle.flat_ram.specs.Bytes.{put_bytes}
+use Rattle.flat_ram.specs.Bytes.{put_bytes, zeros_of}
 use Rattle.r4_shape.specs.Numbers.{Numbers, IsShape, places}
-use Rattle.r4_shape.specs.Address.{index}
+use Rattle.r4_shape.specs.Address.{index, granule}
 use Rattle.line_moves.specs.declared.places.Side.{Side}
 use Rattle.line_moves.specs.declared.places.Side.TheVariants.{I, D}
 use Rattle.line_moves.specs.declared.places.Place.{Place}
@@ -17,6 +17,13 @@ pub record Line : Type 0 where
   pub dirty : Bool  -- whether it was written since it was filled or written back
   pub pidx : ℕ  -- the bits of the virtual address that a line of a secondary cache keeps, and 0 in a primary cache
   pub bytes : List ℕ
+
+-- the line of a physical address as it is filled, clean, with these bytes; and as it is made without RAM, of zero bytes
+abbrev pub filled_line : Numbers → ℕ → List ℕ → Line
+filled_line shape pa bytes = record { number = granule shape pa; dirty = false; pidx = 0; bytes = bytes }
+
+abbrev pub forged_line : Numbers → ℕ → Bool → Line
+forged_line shape pa dirty = record { number = granule shape pa; dirty = dirty; pidx = 0; bytes = zeros_of shape.line }
 
 -- What stands at each place of both caches, by index, and the shape that tells how many places there are.
 pub record CacheLines : Type 0 where

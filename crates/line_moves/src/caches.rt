@@ -2,7 +2,7 @@
 
 ghost use Rattle.std.specs.Prelude.{◌≡◌, ◌+◌, ◌*◌, ◌/◌, ◌%◌, ◌^◌, ◌<◌, ◌≤◌, true, false, Some, None, length, IfOk, IfSome, IsSome};
 ghost use Rattle.std.specs.Int.{bytes_high_first};
-ghost use Rattle.flat_ram.specs.Bytes.{number_at, zeros_of};
+ghost use Rattle.flat_ram.specs.Bytes.{number_at};
 ghost use Rattle.r4_shape.specs.Numbers.{places};
 ghost use Rattle.r4_shape.specs.Address.{granule};
 ghost use Rattle.primary_caches.specs.Tag.{tag_at};
@@ -74,7 +74,7 @@ fn set_tag(tags: &mut Tags, place: Place, tag: Tag)
 fn mark_dirty(tags: &mut Tags, place: Place)
     requires within { place.index < tags.old.places }
     requires side { place.side ≡ D }
-    ensures set { tags.new ≡ kept.with_tag place.side place.index (kept.dirtied (tag_at (kept.tags_of place.side tags.old) place.index)) tags.old }
+    ensures set { tags.new ≡ kept.with_dirty place tags.old }
 {
     let tag = tag_of(tags, place);
     set_tag(tags, place, Tag { dirty: true, ..tag });
@@ -180,7 +180,7 @@ impl Caches {
         requires address { pa < 2 ^ 36 }
         requires place { IsPlaceOf self.old.shape place pa }
         requires whole { length bytes.now ≡ self.old.shape.line }
-        ensures filled { self.new ≡ law.with_line place (Some (record { number = granule self.old.shape pa; dirty = false; pidx = 0; bytes = bytes.now })) self.old }
+        ensures filled { self.new ≡ law.with_line place (Some (law.filled_line self.old.shape pa bytes.now)) self.old }
         ensures held { IsSome (law.line_at place self.new) }
     {
         let start = start_of(self.shape, place);
@@ -199,7 +199,7 @@ impl Caches {
         requires address { pa < 2 ^ 36 }
         requires place { IsPlaceOf self.old.shape place pa }
         requires clean { place.side ≡ I → dirty ≡ false }
-        ensures forged { self.new ≡ law.with_line place (Some (record { number = granule self.old.shape pa; dirty = dirty; pidx = 0; bytes = zeros_of self.old.shape.line })) self.old }
+        ensures forged { self.new ≡ law.with_line place (Some (law.forged_line self.old.shape pa dirty)) self.old }
         ensures held { IsSome (law.line_at place self.new) }
     {
         let start = start_of(self.shape, place);

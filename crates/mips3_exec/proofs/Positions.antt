@@ -151,6 +151,9 @@ right_loaded Double old va bytes is_register fits =
     (ap (λ v. v % 2 ^ 64) (merged_is (7 - offset) (offset + 1) 0 old bytes (omega arith) ∙ right_is offset old bytes within is_register fits)
     ∙ wraps_double (old - old % 256 ^ (offset + 1) + bytes))
 
+-- what each load leaves in the register
+pub ruleset loads = (whole_loaded, linked_loaded, left_loaded, right_loaded)
+
 -- ---- stores
 
 whole_piece : (n value : ℕ) → value / 256 ^ 0 % n ≡ value % n
@@ -177,6 +180,9 @@ pub right_stored : (width : Width) (value va : ℕ) → stored_by (StoreRight wi
 unfolding stored_by
 right_stored Word value va = piece_is (7 - va % 4) (va % 4 + 1) 0 value (omega arith) ∙ whole_piece (256 ^ (va % 4 + 1)) value
 right_stored Double value va = piece_is (7 - va % 8) (va % 8 + 1) 0 value (omega arith) ∙ whole_piece (256 ^ (va % 8 + 1)) value
+
+-- what each store puts into memory
+pub ruleset stores = (whole_stored, conditional_stored, left_stored, right_stored)
 
 -- a store's number fits its bytes
 pub stored_fits : (operation : Operation) (value va : ℕ) → IsTrue (is_store operation) → stored_by operation value va < 256 ^ (moved operation va).size

@@ -9,9 +9,9 @@ use Rattle.tlb_model.specs.declared.pairs.Pair.{Pair}
 use Rattle.tlb_model.specs.Pairs.{IsPair, hi_bits, lo_bits}
 use Rattle.tlb_model.proofs.Storable.{mask_only, hi_only}
 
-pub tag_lo_possible : (number : ℕ) → number < 2 ^ 32 → HasOnly number (possible_bits 28)
+pub tag_lo_fits : (number : ℕ) → number < 2 ^ 32 → HasOnly number (possible_bits 28)
 unfolding possible_bits
-tag_lo_possible number small = word_only number small
+tag_lo_fits number small = word_only number small
 
 -- ---- the registers of a pair
 
@@ -31,6 +31,9 @@ pub lo1_possible : (pair : Pair) → IsPair pair → HasOnly pair.lo1 (possible_
 unfolding possible_bits
 lo1_possible pair is = is.lo1
 
+-- what each part of a pair can leave in its register
+pub ruleset pair_fits = (mask_possible, hi_possible, lo0_possible, lo1_possible)
+
 -- ---- and what they hold
 
 pub hi_bits_only : (number : ℕ) → HasOnly number (possible_bits 10) → HasOnly number hi_bits
@@ -44,6 +47,9 @@ lo0_bits_only number only = only
 pub lo1_bits_only : (number : ℕ) → HasOnly number (possible_bits 3) → HasOnly number lo_bits
 unfolding possible_bits
 lo1_bits_only number only = only
+
+-- what each register leaves in its part of a pair
+pub ruleset pair_bits_only = (hi_bits_only, lo0_bits_only, lo1_bits_only)
 
 -- ---- Index
 

@@ -36,3 +36,6 @@ fields_by form inst is_inst is =
       sa = sa_below inst is_inst;
       imm = is_inst.fields.imm;
     })
+
+-- what the table says of the row of an instruction: its shifts lie within a register, and it has the fields of its form
+pub ruleset row_facts = (within_by, fields_by)

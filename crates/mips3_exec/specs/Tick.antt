@@ -5,7 +5,7 @@ use Rattle.std.specs.Prelude.{ℕ, Bool, true, false, Option, Some, None}
 use Rattle.cp0_regs.specs.Counting.{with_lines}
 use Rattle.mips3_exec.specs.declared.processor.Cpu.{Cpu}
 use Rattle.mips3_exec.specs.declared.talk.StepEnd.{StepEnd}
-use Rattle.mips3_exec.specs.declared.talk.StepEnd.TheVariants.{Went, WroteWired, Trapped}
+use Rattle.mips3_exec.specs.declared.talk.StepEnd.TheVariants.{WroteWired, Trapped}
 use Rattle.mips3_exec.specs.declared.talk.Reply.{Reply}
 use Rattle.mips3_exec.specs.declared.talk.Reply.TheVariants as reply
 use Rattle.mips3_exec.specs.declared.talk.Request.{Request}

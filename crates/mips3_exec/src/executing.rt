@@ -351,7 +351,7 @@ fn carried_out(operation: Operation, form: Form, inst: &Inst, regs: &Regs, pc: u
 }
 
 /// The effect of an instruction at pc on these registers.
-#[tactic(auto, unfolding(crate::specs::Effects::effect_of), using(crate::proofs::TableFacts::within_by, crate::proofs::TableFacts::fields_by))]
+#[tactic(auto, unfolding(crate::specs::Effects::effect_of), using(crate::proofs::TableFacts::row_facts))]
 pub fn effect(inst: &Inst, regs: &Regs, pc: u32) -> Effect
     requires { IsInst inst.now }
     ensures effect { result ≡ law.effect_of inst.now regs.now pc }

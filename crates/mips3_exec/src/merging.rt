@@ -77,7 +77,7 @@ fn below(count: u8, old: u64, bytes: u64) -> u64
     (old - low_bytes(count, old)).wrapping_add(bytes)
 }
 
-#[tactic(auto, using(crate::proofs::Positions::whole_loaded, crate::proofs::Positions::linked_loaded, crate::proofs::Positions::left_loaded, crate::proofs::Positions::right_loaded))]
+#[tactic(auto, using(crate::proofs::Positions::loads))]
 fn loaded_by(operation: Operation, old: u64, va: u32, bytes: u64) -> u64
     requires load { IsTrue (law.is_load operation) }
     requires fits { bytes < 256 ^ (law.moved operation va).size }
@@ -92,7 +92,7 @@ fn loaded_by(operation: Operation, old: u64, va: u32, bytes: u64) -> u64
     }
 }
 
-#[tactic(auto, using(crate::proofs::Positions::whole_stored, crate::proofs::Positions::conditional_stored, crate::proofs::Positions::left_stored, crate::proofs::Positions::right_stored))]
+#[tactic(auto, using(crate::proofs::Positions::stores))]
 fn stored_by(operation: Operation, value: u64, va: u32) -> u64
     requires store { IsTrue (law.is_store operation) }
     ensures { result ≡ law.stored_by operation value va }

@@ -217,7 +217,7 @@ fn store<M: MemorySystem>(cpu: &mut Cpu, memory: &mut M, inst: &Inst, r: Referen
 }
 
 // A cache operation.
-#[tactic(auto, using(crate::proofs::System::tag_lo_possible), unfolding(crate::specs::References::operate, crate::specs::References::operated))]
+#[tactic(auto, using(crate::proofs::System::tag_lo_fits), unfolding(crate::specs::References::operate, crate::specs::References::operated))]
 fn operate<M: MemorySystem>(cpu: &mut Cpu, memory: &mut M, r: Reference) -> StepEnd
     requires code { r.reg < 32 }
     ensures end { result ≡ (hold M.ask_gives memory.old (law.operate cpu.old r)).end }

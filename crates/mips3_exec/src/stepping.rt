@@ -1,6 +1,6 @@
 //! One step of the processor over any memory system.
 
-ghost use Rattle.std.specs.Prelude.{◌≡◌, IfSome};
+ghost use Rattle.std.specs.Prelude.{◌≡◌, false, None, IfSome};
 ghost use Rattle.mips3_table.specs.Instructions.{IsInst};
 ghost use Rattle.cp0_exceptions.specs.Causes.{IsRaised};
 ghost use Rattle.mips3_exec.specs.Effects.{operation_of};
@@ -21,6 +21,16 @@ use cp0_exceptions::codes::{
 };
 use mips3_code::decode;
 use mips3_table::{Inst, is_64_bit, operation_of};
+
+// An exception that an instruction raises by itself, which names no address.
+fn raised_by(code: u8, unit: u8) -> Raised
+    ensures raised { result ≡ record { code = code; unit = unit; bad = None; refill = false } }
+{
+    Raised {
+        unit,
+        ..plain(code)
+    }
+}
 
 // What an instruction does, by its effect.
 #[tactic(auto, unfolding(crate::specs::Step::perform))]
@@ -71,15 +81,7 @@ fn perform<M: MemorySystem>(cpu: &mut Cpu, memory: &mut M, inst: &Inst, effect: 
             return refer(cpu, memory, inst, reference);
         }
         Effect::System { .. } => return control(cpu, inst, operation_of(inst.row)),
-        Effect::Raise { code, unit } => {
-            let what = Raised {
-                code,
-                unit,
-                bad: None,
-                refill: false,
-            };
-            return trap(cpu, what);
-        }
+        Effect::Raise { code, unit } => return trap(cpu, raised_by(code, unit)),
     }
     StepEnd::Went
 }

@@ -51,7 +51,7 @@ fn entry_at(cpu: &Cpu, at: u32) -> Pair
 }
 
 // Puts a pair into the registers of CP0.
-#[tactic(auto, using(crate::proofs::System::mask_possible, crate::proofs::System::hi_possible, crate::proofs::System::lo0_possible, crate::proofs::System::lo1_possible))]
+#[tactic(auto, using(crate::proofs::System::pair_fits))]
 fn show_pair(cpu: &mut Cpu, pair: Pair)
     requires { IsPair pair }
     ensures shown { cpu.new ≡ law.with_pair cpu.old pair }

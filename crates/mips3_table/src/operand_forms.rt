@@ -88,62 +88,60 @@ fn number_alone(number: u8, number_at: u8) -> Widths
     }
 }
 
+// The registers that have a field, each of 5 bits or of none, and no number.
+fn registers(rs: u8, rt: u8, rd: u8) -> Widths
+    ensures { result ≡ law.widths rs rt rd 0 0 0 }
+{
+    Widths {
+        rs,
+        rt,
+        rd,
+        ..number_alone(0, 0)
+    }
+}
+
+// The same beside a number in the low half of a word.
+fn with_half(rs: u8, rt: u8) -> Widths
+    ensures { result ≡ law.widths rs rt 0 0 16 0 }
+{
+    Widths {
+        rs,
+        rt,
+        ..number_alone(16, 0)
+    }
+}
+
 /// The widths of a form's fields.
 pub fn widths_of(form: Form) -> Widths
     ensures value { result ≡ law.widths_of form }
     ensures in_word { law.AreSmall result }
 {
-    let none = number_alone(0, 0);
-    let half = number_alone(16, 0);
     match form {
         Form::Target | Form::CoprocessorNumber => number_alone(26, 0),
         Form::Code => number_alone(20, 6),
-        Form::NoOperands => none,
+        Form::NoOperands => registers(0, 0, 0),
         Form::CompareBranch
         | Form::SignedImmediate
         | Form::UnsignedImmediate
         | Form::Memory
         | Form::CacheOperation
-        | Form::CoprocessorMemory => Widths {
-            rs: 5,
-            rt: 5,
-            ..half
-        },
-        Form::ZeroBranch | Form::TrapImmediate => Widths { rs: 5, ..half },
-        Form::UpperImmediate => Widths { rt: 5, ..half },
+        | Form::CoprocessorMemory => with_half(5, 5),
+        Form::ZeroBranch | Form::TrapImmediate => with_half(5, 0),
+        Form::UpperImmediate => with_half(0, 5),
         Form::TrapRegisters => Widths {
             rs: 5,
             rt: 5,
             ..number_alone(10, 6)
         },
         Form::Shift => Widths {
-            rt: 5,
-            rd: 5,
             sa: 5,
-            ..none
+            ..registers(0, 5, 5)
         },
-        Form::ShiftByRegister | Form::ThreeRegisters => Widths {
-            rs: 5,
-            rt: 5,
-            rd: 5,
-            ..none
-        },
-        Form::Source => Widths { rs: 5, ..none },
-        Form::JumpAndLinkRegister => Widths {
-            rs: 5,
-            rd: 5,
-            ..none
-        },
-        Form::Destination => Widths { rd: 5, ..none },
-        Form::TwoSources => Widths {
-            rs: 5,
-            rt: 5,
-            ..none
-        },
-        Form::Cp0Move => Widths {
-            rt: 5,
-            rd: 5,
-            ..none
-        },
+        Form::ShiftByRegister | Form::ThreeRegisters => registers(5, 5, 5),
+        Form::Source => registers(5, 0, 0),
+        Form::JumpAndLinkRegister => registers(5, 0, 5),
+        Form::Destination => registers(0, 0, 5),
+        Form::TwoSources => registers(5, 5, 0),
+        Form::Cp0Move => registers(0, 5, 5),
     }
 }

@@ -1,6 +1,7 @@
 -- The tokens that are expected: those of a list of numbers, and their ranges.
 use Rattle.std.proofs.Common.{◌≡◌, ◌-◌, ◌<◌, ℕ, zero, suc, [], ◌∷◌, refl, ap, arith, rules}
 use Rattle.std.specs.List.{All}
+use Rattle.std.proofs.lemmas.Grind.{common_steps}
 use Rattle.std.proofs.lemmas.List.Elements.{All-cons, All-nil}
 use Rattle.mips3_table.specs.declared.operand_forms.Form.{Form}
 use Rattle.mips3_table.specs.declared.operand_forms.Form.TheVariants as form
@@ -22,6 +23,9 @@ numbers_more (suc more) range lt = let same : more ≡ suc more - 1 = omega arit
 pub numbers_last : (more : ℕ) (range : Range) → more ≡ 0 → numbers_expected more range ≡ ANumber Imm range ∷ []
 numbers_last zero range none = refl
 numbers_last (suc more) range none = absurd (omega arith)
+
+-- a list of numbers one by one
+pub ruleset number_by_number = (numbers_more, numbers_last, common_steps)
 
 narrow_numbers : (more : ℕ) (range : Range) → IsNarrow range → All IsNarrowAt (numbers_expected more range)
 narrow_numbers zero range narrow = All-cons IsNarrowAt (ANumber Imm range) [] (narrow, tt) (All-nil IsNarrowAt)

@@ -32,8 +32,10 @@ IsSound item = Unit {0}
 -- an instruction can be coded with the target that one of these operands is, and without one
 abbrev pub IsSoundBy : List Operand → Inst → Type 0
 IsSoundBy [] inst = IsInst inst
-IsSoundBy (BranchTarget ∷ more) inst = ((number : ℕ) → number < 2 ^ 16 → IsInst (record inst { imm = number })) × IsSoundBy more inst
-IsSoundBy (JumpTarget ∷ more) inst = ((number : ℕ) → number < 2 ^ 26 → IsInst (record inst { imm = number })) × IsSoundBy more inst
+IsSoundBy (BranchTarget ∷ more) inst =
+    ((number : ℕ) → number < 2 ^ 16 → IsInst (record inst { imm = number })) × IsSoundBy more inst
+IsSoundBy (JumpTarget ∷ more) inst =
+    ((number : ℕ) → number < 2 ^ 26 → IsInst (record inst { imm = number })) × IsSoundBy more inst
 IsSoundBy (one ∷ more) inst = IsSoundBy more inst
 
 -- a line's statement can be coded

@@ -78,7 +78,7 @@ fn put_operands(operands: &[Operand], out: &mut ExpectedTokens)
 }
 
 /// Appends a number and so many further ones with commas before them.
-#[tactic(auto, using(crate::proofs::NumberList::numbers_more, crate::proofs::NumberList::numbers_last, std::proofs::lemmas::Grind::common_steps))]
+#[tactic(auto, using(crate::proofs::NumberList::number_by_number))]
 fn put_numbers(range: Range, more: usize, out: &mut ExpectedTokens)
     requires { array_vec_len out.old + 2 * more + 1 ≤ 64 }
     ensures { out.new.items ≡ out.old.items ++ law.numbers_expected more range }

@@ -2,6 +2,7 @@
 use Rattle.std.proofs.Common.{◌≡◌, ◌<◌, ◌≤◌, ◌/◌, ◌%◌, ◌^◌, ℕ, zero, suc, List, [], ◌∷◌, ◌++◌, map, length, refl, ap, sym, ◌∙◌, arith}
 use Rattle.std.specs.Int.Digits.{digits_of}
 use Rattle.std.proofs.lemmas.Int.Digits.{digits_of_step, length-digits_of-le}
+use Rattle.std.proofs.lemmas.Grind.{common_steps}
 use Rattle.std.proofs.lemmas.List.{map-append, length-map}
 use Rattle.r4_words.specs.Texts.{digit_of, hex_of}
 use Rattle.mips_text.specs.Values.{hex_digits_of}
@@ -43,3 +44,8 @@ length_below count (suc n) some lt =
 
 pub length_hex_digits_of : (value : ℕ) → value < 2 ^ 32 → length (hex_digits_of value) ≤ 8
 length_hex_digits_of value lt = length_below 8 value (omega arith) (omega arith)
+
+-- hexadecimal digits one by one, the last of them and those before it; and how many there are
+pub ruleset hex_digit_by_digit = (hex_digits_small, hex_digits_more, hex_of_one, common_steps)
+
+pub ruleset hex_digit_counts = (length_hex_digits_of, common_steps)

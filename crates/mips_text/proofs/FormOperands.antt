@@ -1,5 +1,6 @@
 -- The operands of each form: three at most, each of which the form's fields are in range for.
 use Rattle.std.proofs.Common.{◌≤◌, length, arith}
+use Rattle.std.proofs.lemmas.Grind.{common_steps}
 use Rattle.mips3_table.specs.declared.instruction.Inst.{Inst}
 use Rattle.mips3_table.specs.declared.operand_forms.Form.{Form}
 use Rattle.mips3_table.specs.declared.operand_forms.Form.TheVariants.{Target, CompareBranch, ZeroBranch, SignedImmediate, UnsignedImmediate, UpperImmediate, Memory, CacheOperation, CoprocessorNumber, CoprocessorMemory, Shift, ShiftByRegister, Source, JumpAndLinkRegister, Code, NoOperands, Destination, TwoSources, ThreeRegisters, TrapRegisters, TrapImmediate, Cp0Move}
@@ -37,3 +38,6 @@ fit_form Cp0Move inst fits = (fits.rt, (fits.rd, tt))
 pub few_operands : (form : Form) → length (operands_of form) ≤ 3
 few_operands Target = omega arith
 few_operands _ = omega arith
+
+-- that the operands of a row fit their fields, and are few enough for a line
+pub ruleset row_operands = (fit_form, few_operands, common_steps)

@@ -16,10 +16,14 @@ register_names =
 -- the names of the registers 0 to 31 of coprocessor 0; one that has none in the manual has `c` and its number
 unfoldable pub cp0_names : List (List ℕ)
 cp0_names =
-    codes "Index" ∷ codes "Random" ∷ codes "EntryLo0" ∷ codes "EntryLo1" ∷ codes "Context" ∷ codes "PageMask" ∷ codes "Wired" ∷ codes "c7" ∷
-    codes "BadVAddr" ∷ codes "Count" ∷ codes "EntryHi" ∷ codes "Compare" ∷ codes "Status" ∷ codes "Cause" ∷ codes "EPC" ∷ codes "PRId" ∷
-    codes "Config" ∷ codes "LLAddr" ∷ codes "c18" ∷ codes "c19" ∷ codes "c20" ∷ codes "c21" ∷ codes "c22" ∷ codes "c23" ∷
-    codes "c24" ∷ codes "c25" ∷ codes "c26" ∷ codes "c27" ∷ codes "TagLo" ∷ codes "TagHi" ∷ codes "ErrorEPC" ∷ codes "c31" ∷ []
+    codes "Index" ∷ codes "Random" ∷ codes "EntryLo0" ∷ codes "EntryLo1" ∷
+    codes "Context" ∷ codes "PageMask" ∷ codes "Wired" ∷ codes "c7" ∷
+    codes "BadVAddr" ∷ codes "Count" ∷ codes "EntryHi" ∷ codes "Compare" ∷
+    codes "Status" ∷ codes "Cause" ∷ codes "EPC" ∷ codes "PRId" ∷
+    codes "Config" ∷ codes "LLAddr" ∷ codes "c18" ∷ codes "c19" ∷
+    codes "c20" ∷ codes "c21" ∷ codes "c22" ∷ codes "c23" ∷
+    codes "c24" ∷ codes "c25" ∷ codes "c26" ∷ codes "c27" ∷
+    codes "TagLo" ∷ codes "TagHi" ∷ codes "ErrorEPC" ∷ codes "c31" ∷ []
 
 -- the name of a general register
 unfoldable pub register_name : ℕ → List ℕ

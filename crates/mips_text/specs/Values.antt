@@ -24,7 +24,12 @@ bounded n = if nat_lt (nat_abs n) (2 ^ 32) then Some n else None
 
 -- what stands for the byte after a backslash: `\n`, `\0`, `\\` and `\"`
 abbrev pub escaped : ℕ → Option ℕ
-escaped code = if code == 110 then Some 10 else if code == 48 then Some 0 else if code == 92 then Some 92 else if code == 34 then Some 34 else None
+escaped code =
+    if code == 110 then Some 10
+    else if code == 48 then Some 0
+    else if code == 92 then Some 92
+    else if code == 34 then Some 34
+    else None
 
 -- a byte before others, where both are there
 abbrev pub with_byte : Option ℕ → Option (List ℕ) → Option (List ℕ)

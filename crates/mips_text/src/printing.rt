@@ -58,7 +58,7 @@ fn put_statement(inst: &Inst, at: u32, out: &mut Line)
 }
 
 /// Appends the name of an instruction's row and its operands.
-#[tactic(auto, using(crate::proofs::FormOperands::fit_form, crate::proofs::FormOperands::few_operands, std::proofs::lemmas::Grind::common_steps))]
+#[tactic(auto, using(crate::proofs::FormOperands::row_operands))]
 fn put_row(inst: &Inst, at: u32, out: &mut Line)
     requires inst { IsInst inst.now }
     requires room { array_vec_len out.old ≤ 0 }

@@ -30,7 +30,7 @@ pub fn put_cp0_register(register: u8, line: &mut Line)
 }
 
 /// Appends hexadecimal digits without a leading zero.
-#[tactic(auto, using(crate::proofs::Digits::hex_digits_small, crate::proofs::Digits::hex_digits_more, crate::proofs::Digits::hex_of_one, std::proofs::lemmas::Grind::common_steps))]
+#[tactic(auto, using(crate::proofs::Digits::hex_digit_by_digit))]
 fn push_hex(value: u32, line: &mut Line)
     requires { array_vec_len line.old + length (hex_digits_of value) ≤ 128 }
     ensures items { line.new.items ≡ line.old.items ++ hex_digits_of value }
@@ -43,7 +43,7 @@ fn push_hex(value: u32, line: &mut Line)
 }
 
 /// Appends a number without a sign in hexadecimal, `0x` and its digits.
-#[tactic(auto, using(crate::proofs::Digits::length_hex_digits_of, std::proofs::lemmas::Grind::common_steps), unfolding(crate::specs::Values::hex_text))]
+#[tactic(auto, using(crate::proofs::Digits::hex_digit_counts), unfolding(crate::specs::Values::hex_text))]
 pub fn put_hexadecimal(value: u32, line: &mut Line)
     requires { array_vec_len line.old ≤ 100 }
     ensures items { line.new.items ≡ line.old.items ++ hex_text value }

@@ -221,7 +221,7 @@ fn set_pair(tlb: &mut Tlb, name: &str, text: &str) -> Option<()> {
 }
 
 // The pair of four words, as it is stored.
-#[tactic(auto, using(mips3_exec::proofs::System::hi_bits_only, mips3_exec::proofs::System::lo0_bits_only, mips3_exec::proofs::System::lo1_bits_only))]
+#[tactic(auto, using(mips3_exec::proofs::System::pair_bits_only))]
 fn pair_of(text: &str) -> Option<Pair>
     ensures { IfSome result IsPair }
 {

@@ -21,7 +21,16 @@ pub record ShelfState : Type 0 where
 
 -- a shelf before its first call
 abbrev pub new_shelf : Files → ℕ → List ℕ → ShelfState
-new_shelf files room failing = record { files = files; is_told = true; asked = Some []; left = room; failing = failing; calls = 0; fetch_faults = 0; put_faults = 0 }
+new_shelf files room failing = record {
+  files = files;
+  is_told = true;
+  asked = Some [];
+  left = room;
+  failing = failing;
+  calls = 0;
+  fetch_faults = 0;
+  put_faults = 0;
+}
 
 -- the files, where they are told
 abbrev pub held_by : ShelfState → Option Files
@@ -53,9 +62,19 @@ after_keeping shelf name bytes = record shelf { files = insert shelf.files name 
 
 -- the shelf after a put
 abbrev pub after_put : ShelfState → List ℕ → List ℕ → ShelfState
-after_put shelf name bytes = if put_fails shelf name bytes then after_failed_put shelf name else after_keeping (after_call shelf (put_of name)) name bytes
+after_put shelf name bytes =
+    if put_fails shelf name bytes then after_failed_put shelf name
+    else after_keeping (after_call shelf (put_of name)) name bytes
 
 -- a shelf that was made of these files and has carried out these puts
 abbrev pub shelf_state : Files → PutLogState → Bool → Option (List Call) → List ℕ → ℕ → ℕ → ℕ → ShelfState
-shelf_state files log is_told asked failing calls fetch_faults put_faults =
-    record { files = files_after files log.puts; is_told = is_told; asked = asked; left = log.left; failing = failing; calls = calls; fetch_faults = fetch_faults; put_faults = put_faults }
+shelf_state files log is_told asked failing calls fetch_faults put_faults = record {
+  files = files_after files log.puts;
+  is_told = is_told;
+  asked = asked;
+  left = log.left;
+  failing = failing;
+  calls = calls;
+  fetch_faults = fetch_faults;
+  put_faults = put_faults;
+}

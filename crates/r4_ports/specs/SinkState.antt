@@ -14,7 +14,14 @@ pub record SinkState : Type 0 where
 
 -- a sink in memory by its parts
 abbrev pub sink_state : List ℕ → ℕ → Bool → List ℕ → ℕ → ℕ → SinkState
-sink_state written room is_flushed failing calls faults = record { written = written; room = room; is_flushed = is_flushed; failing = failing; calls = calls; faults = faults }
+sink_state written room is_flushed failing calls faults = record {
+  written = written;
+  room = room;
+  is_flushed = is_flushed;
+  failing = failing;
+  calls = calls;
+  faults = faults;
+}
 
 -- a write fails where its number is listed, or its piece goes beyond the room
 abbrev pub write_fails : SinkState → List ℕ → Bool
@@ -22,7 +29,9 @@ write_fails sink piece = is_listed sink.failing sink.calls || nat_lt sink.room (
 
 -- what a write appends: its piece, or the first half of it where its number is listed, as far as the room goes
 abbrev pub part_written : SinkState → List ℕ → List ℕ
-part_written sink piece = take (min (if is_listed sink.failing sink.calls then length piece / 2 else length piece) (sink.room - length sink.written)) piece
+part_written sink piece =
+    let going = if is_listed sink.failing sink.calls then length piece / 2 else length piece in
+    take (min going (sink.room - length sink.written)) piece
 
 -- the sink after a write
 abbrev pub after_write : SinkState → List ℕ → SinkState

@@ -50,7 +50,9 @@ abbrev pub size_names : ℕ → ℕ → ℕ → List Name
 size_names prim line group = map (λ size. name size.text (with_secondary prim line group size.number)) sizes
 
 unfoldable pub group_names : ℕ → ℕ → List Name
-group_names prim line = flat_map (λ group. under group.text (size_names prim line group.number)) (filter (λ group. nat_le line group.number) groups)
+group_names prim line =
+    flat_map (λ group. under group.text (size_names prim line group.number))
+    (filter (λ group. nat_le line group.number) groups)
 
 unfoldable pub secondary_names : ℕ → List Name
 secondary_names prim = flat_map (λ line. under line.text (group_names prim line.number)) lines

@@ -12,6 +12,10 @@ pub record Numbers : Type 0 where
   pub group : ℕ
   pub size : ℕ
 
+-- the numbers of a shape by themselves, in the order above
+abbrev pub numbers_of : Bool → ℕ → ℕ → ℕ → ℕ → Numbers
+numbers_of sc prim line group size = record { sc = sc; prim = prim; line = line; group = group; size = size }
+
 -- primary caches of `prim` bytes alone, in lines of `line` bytes
 abbrev pub primary_alone : ℕ → ℕ → Numbers
 primary_alone prim line = record { sc = false; prim = prim; line = line; group = 0; size = 0 }

@@ -21,13 +21,13 @@ pub struct Shape {
 }
 
 impl Model for Shape {
-    ghost use Rattle.r4_shape.specs.Numbers.{IsShape, Numbers};
+    ghost use Rattle.r4_shape.specs.Numbers.{IsShape, Numbers, numbers_of};
 
     ghost Value = { Numbers };
 
-    ghost view = { λ shape. record { sc = shape.sc; prim = shape.prim; line = shape.line; group = shape.group; size = shape.size } };
+    ghost view = { λ shape. numbers_of shape.sc shape.prim shape.line shape.group shape.size };
 
-    ghost invariant = { λ shape. IsShape (record { sc = shape.sc; prim = shape.prim; line = shape.line; group = shape.group; size = shape.size }) };
+    ghost invariant = { λ shape. IsShape (numbers_of shape.sc shape.prim shape.line shape.group shape.size) };
 
     ghost inverse = { λ shape. record { sc = shape.sc; prim = shape.prim; line = shape.line; group = shape.group; size = shape.size } };
 }

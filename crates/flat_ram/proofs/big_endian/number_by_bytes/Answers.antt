@@ -1,4 +1,4 @@
-use Rattle.std.proofs.Common.{◌≡◌, ◌≤◌, ◌<◌, ◌+◌, ◌^◌, arith}
+use Rattle.std.proofs.Common.{◌+◌, arith}
 use Rattle.flat_ram.proofs.Numbers.{room_for_more}
 use Rattle.flat_ram.proofs.big_endian.number_by_bytes.Goals as goal
 

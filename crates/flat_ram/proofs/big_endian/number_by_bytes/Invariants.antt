@@ -1,4 +1,4 @@
-use Rattle.std.proofs.Common.{◌≡◌, ◌≤◌, ◌<◌, ◌^◌}
+use Rattle.std.proofs.Common.{◌≡◌, ◌<◌, ◌^◌}
 use Rattle.flat_ram.specs.Bytes as law
 use Rattle.flat_ram.proofs.big_endian.number_by_bytes.Given as goal
 

@@ -1,4 +1,4 @@
-use Rattle.std.proofs.Common.{◌≡◌, ◌∙◌, ap, ◌-◌, take, drop}
+use Rattle.std.proofs.Common.{◌∙◌, ap, ◌-◌, take, drop}
 use Rattle.flat_ram.specs.Bytes as law
 use Rattle.flat_ram.proofs.Numbers.{low_bytes}
 use Rattle.flat_ram.proofs.memory.put_number.Goals as goal
