@@ -5,3 +5,4 @@ pub mod FirstLine
 pub mod Collected
 pub mod WrittenTrace
 pub mod Facts
+pub mod Digits

@@ -25,6 +25,6 @@ mod traces;
 
 pub use event::{Breach, Event, EventKind, Verdict};
 pub use grammar::is_event;
-pub use printing::print_event;
+pub use printing::{append_event, print_event};
 pub use reading::read_event;
 pub use traces::{BadLine, TraceFault, TraceReader, read_trace};

@@ -82,7 +82,9 @@ beat_reply None = reply.Done
 abbrev pub beat_made : Bus → Outcome Bus
 beat_made bus =
     record {
-      memory = with_ram (with_devices bus (due_beat bus.devices.devices bus.hierarchy.ram).devices) (due_beat bus.devices.devices bus.hierarchy.ram).ram;
+      memory =
+          with_ram (with_devices bus (due_beat bus.devices.devices bus.hierarchy.ram).devices)
+          (due_beat bus.devices.devices bus.hierarchy.ram).ram;
       reply = beat_reply (due_beat bus.devices.devices bus.hierarchy.ram).beat;
     }
 
@@ -134,7 +136,8 @@ load_from bus pa size Empty = replied bus reply.BusError
 
 -- so many bytes at an address; the PROM takes none
 abbrev pub store_to : Bus → ℕ → ℕ → ℕ → Spot → Outcome Bus
-store_to bus pa size value Ram = record { memory = with_ram bus (put_bytes bus.hierarchy.ram pa (bytes_high_first size value)); reply = reply.Stored }
+store_to bus pa size value Ram =
+    record { memory = with_ram bus (put_bytes bus.hierarchy.ram pa (bytes_high_first size value)); reply = reply.Stored }
 store_to bus pa size value Prom = replied bus reply.BusError
 store_to bus pa size value Device =
     if is_word pa size then register_written bus (pa - device_base) (value % 2 ^ 32) else replied bus reply.BusError

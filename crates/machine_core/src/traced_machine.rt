@@ -37,7 +37,7 @@ pub struct TracedMachine {
 impl TracedMachine {
     ghost use Rattle.machine_core.specs.Machine.{reset_of, tick_of};
     ghost use Rattle.machine_core.specs.Shown.{shown_of};
-    ghost use Rattle.machine_core.specs.Traced.{machine_in, tick_events, tick_span};
+    ghost use Rattle.machine_core.specs.Traced.{log_of, machine_in, tick_events, tick_span};
     ghost use Rattle.run_report.specs.Shown.{shown_by};
 
     /// The machine of a shape at reset, with an image loaded into RAM that is zero elsewhere, caches without a line, a disk of
@@ -70,7 +70,24 @@ impl TracedMachine {
         })
     }
 
-    // Makes one tick of a machine that has not halted.
+    /// Makes one tick of a machine that has not halted. What was asked stands in the log after it; its events are not gathered.
+    #[inline(always)]
+    pub fn advance(&mut self) -> Tick
+        requires ticks { self.old.cpu.ticks < 4294967295 }
+        requires runs { self.old.cpu.halt ≡ None }
+        ensures machine { machine_in self.new ≡ (tick_of (machine_in self.old)).machine }
+        ensures answer { result ≡ (tick_of (machine_in self.old)).answer }
+        ensures log { self.new.memory.log ≡ log_of (machine_in self.old) }
+        ensures span { self.new.span_left ≡ tick_span self.old.span_left (machine_in self.old) }
+        ensures ticks { goes_on result ≡ true → self.new.cpu.ticks ≡ self.old.cpu.ticks + 1 }
+        ensures runs { goes_on result ≡ true → self.new.cpu.halt ≡ None }
+    {
+        let answer = make_tick(&mut self.cpu, &mut self.memory);
+        self.span_left = span_after(self.span_left, &self.memory.log);
+        answer
+    }
+
+    // Makes one tick of a machine that has not halted, and gathers its events.
     fn tick_on(&mut self) -> Tick
         requires ticks { self.old.cpu.ticks < 4294967295 }
         requires runs { self.old.cpu.halt ≡ None }
@@ -81,10 +98,9 @@ impl TracedMachine {
         ensures ticks { goes_on result ≡ true → self.new.cpu.ticks ≡ self.old.cpu.ticks + 1 }
         ensures runs { goes_on result ≡ true → self.new.cpu.halt ≡ None }
     {
-        let ticks = self.cpu.ticks;
-        let answer = make_tick(&mut self.cpu, &mut self.memory);
-        self.latest = events_of(ticks, self.span_left, &self.memory.log);
-        self.span_left = span_after(self.span_left, &self.memory.log);
+        let (ticks, span) = (self.cpu.ticks, self.span_left);
+        let answer = self.advance();
+        self.latest = events_of(ticks, span, &self.memory.log);
         answer
     }
 

@@ -13,7 +13,7 @@ use access_trace::Breach;
 
 impl PcLedger {
     // A load through the caches.
-    #[inline]
+    #[inline(always)]
     pub(crate) fn load(&mut self, granule: u32, colour: u32) -> Option<Breach>
         requires granule { granule < (grid_of self.old.shape).whole }
         requires colour { colour < colours self.old.shape }
@@ -31,7 +31,7 @@ impl PcLedger {
     }
 
     // A store through the caches.
-    #[inline]
+    #[inline(always)]
     pub(crate) fn store(&mut self, granule: u32, colour: u32) -> Option<Breach>
         requires granule { granule < (grid_of self.old.shape).whole }
         requires colour { colour < colours self.old.shape }
@@ -55,7 +55,7 @@ impl PcLedger {
     }
 
     // A fetch through the caches.
-    #[inline]
+    #[inline(always)]
     pub(crate) fn fetch(&mut self, granule: u32, colour: u32) -> Option<Breach>
         requires granule { granule < (grid_of self.old.shape).whole }
         requires colour { colour < colours self.old.shape }

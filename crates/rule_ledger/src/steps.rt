@@ -18,7 +18,7 @@ use access_trace::{Breach, Event, EventKind};
 
 impl PcLedger {
     // An access through the caches, or past them.
-    #[inline]
+    #[inline(always)]
     fn access(&mut self, event: &Event) -> Option<Breach>
         requires ram { event.now.pa < 8388608 }
         requires grammar { IsEvent event.now }
@@ -109,7 +109,7 @@ impl PcLedger {
     }
 
     // Holds an event against its row of the table of rules.
-    #[inline]
+    #[inline(always)]
     fn hold(&mut self, event: &Event) -> Option<Breach>
         requires { IsEvent event.now }
         ensures { Follows (row_of self.old.shape event.now) self.old self.new result }
@@ -122,7 +122,7 @@ impl PcLedger {
     }
 
     /// Holds an event against the rules, and answers the first one that it breaks.
-    #[inline]
+    #[inline(always)]
     pub fn step(&mut self, event: &Event) -> Option<Breach>
         requires grammar { IsEvent event.now }
         requires steps { self.old.steps < 18446744073709551615 }

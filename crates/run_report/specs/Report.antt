@@ -56,7 +56,12 @@ register_lines regs (suc lines) = register_lines regs lines ++ register_line reg
 -- four numbers of 32 bits, and the line's end
 unfoldable pub four_numbers : ℕ → ℕ → ℕ → ℕ → List ℕ
 four_numbers first second third fourth =
-    labelled (codes " ") 8 first ++ labelled (codes " ") 8 second ++ labelled (codes " ") 8 third ++ labelled (codes " ") 8 fourth ++ codes "\n"
+    labelled (codes " ") 8 first ++ labelled (codes " ") 8 second
+    ++ labelled (codes " ") 8 third ++ labelled (codes " ") 8 fourth ++ codes "\n"
+
+-- the same of a list of four numbers
+abbrev pub four_of : List ℕ → List ℕ
+four_of listed = four_numbers (slice_index listed 0) (slice_index listed 1) (slice_index listed 2) (slice_index listed 3)
 
 -- the number of the register at a place in the order of the table of CP0, and what it holds
 abbrev pub number_at : ℕ → ℕ

@@ -1,6 +1,6 @@
 //! The lines of the report, each a text of bounded room.
 
-ghost use Rattle.std.specs.Prelude.{◌≡◌, ◌<◌, ◌≤◌, ◌+◌, ◌*◌, ◌++◌, length, slice_index};
+ghost use Rattle.std.specs.Prelude.{◌≡◌, ◌<◌, ◌≤◌, ◌+◌, ◌*◌, ◌++◌, length};
 ghost use Rattle.arrayvec.specs.ArrayVec.{array_vec_len};
 ghost use Rattle.run_report.specs.Report as law;
 
@@ -106,7 +106,7 @@ pub fn register_line(regs: &Regs, at: usize) -> Line
 #[tactic(auto, unfolding(crate::specs::Report::four_numbers))]
 fn put_four(numbers: [u32; 4], line: &mut Line)
     requires { array_vec_len line.old + 37 ≤ 128 }
-    ensures items { line.new.items ≡ line.old.items ++ law.four_numbers (slice_index numbers 0) (slice_index numbers 1) (slice_index numbers 2) (slice_index numbers 3) }
+    ensures items { line.new.items ≡ line.old.items ++ law.four_of numbers }
     ensures len { array_vec_len line.new ≡ array_vec_len line.old + 37 }
 {
     put_labelled(b" ", 8, u64::from(numbers[0]), line);

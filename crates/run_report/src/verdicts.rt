@@ -8,7 +8,7 @@ ghost use Rattle.r4_ports.specs.Writing.{Writes, stand};
 ghost use Rattle.run_report.specs.Verdict as law;
 ghost use Rattle.run_report.specs.Verdict.{verdict_text};
 
-use access_trace::{Breach, Event, Verdict, print_event};
+use access_trace::{Breach, Event, Verdict, append_event};
 use r4_ports::{Pending, Sink, SinkFault, finish, write_line};
 use r4_words::{Line, put_dec, put_text};
 
@@ -19,8 +19,7 @@ fn event_line(event: &Event) -> Line
     ensures text { result.items ≡ law.event_line event.now }
 {
     let mut line = Line::new();
-    print_event(event, &mut line);
-    line.push(b'\n');
+    append_event(event, &mut line);
     line
 }
 
@@ -63,6 +62,20 @@ fn no_line(number: u64, breach: Breach) -> Line
     line
 }
 
+/// Writes the line of an event of the grammar, unless a write failed before. Where there is room for it behind what is pending, it
+/// is made there.
+pub fn put_event<K: Sink>(event: &Event, out: &mut K, pending: &mut Pending)
+    requires { IsEvent event.now }
+    ensures writes { Writes (stand K.written K.faults out.old pending.old)
+        (stand K.written K.faults out.new pending.new) (law.event_line event.now) }
+{
+    if pending.piece.len() <= 70 {
+        append_event(event, &mut pending.piece);
+        return;
+    }
+    write_line(&event_line(event), out, pending);
+}
+
 /// Writes the lines of events of the grammar, unless a write failed before.
 pub fn put_events<K: Sink>(events: &[Event], out: &mut K, pending: &mut Pending)
     requires { All IsEvent events.now }
@@ -70,7 +83,7 @@ pub fn put_events<K: Sink>(events: &[Event], out: &mut K, pending: &mut Pending)
         (stand K.written K.faults out.new pending.new) (events_text events.now) }
 {
     for event in events {
-        write_line(&event_line(event), out, pending);
+        put_event(event, out, pending);
     }
 }
 

@@ -73,7 +73,7 @@ impl Judge {
     }
 
     /// Shows the judge one event more, and answers the verdict on all so far. A No stays.
-    #[inline]
+    #[inline(always)]
     pub fn judge(&mut self, event: &Event) -> Verdict
         requires grammar { IsEvent event.now }
         requires events { self.old.events < 18446744073709551615 }
