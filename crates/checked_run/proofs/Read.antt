@@ -4,7 +4,7 @@ use Rattle.access_trace.specs.declared.event.Event.{Event}
 use Rattle.access_trace.specs.Traces.{with_event}
 use Rattle.r4_shape.specs.Numbers.{Numbers}
 use Rattle.trace_check.specs.Verdicts.{Standing, held}
-use Rattle.checked_run.specs.Trials.{judged_from}
+use Rattle.checked_run.specs.RunTexts.{judged_from}
 
 -- one event more
 pub judged_more : (shape : Numbers) (standing : Standing) (event : Event) (later : Result (List Event) ℕ) →

@@ -1,29 +1,15 @@
-//! The judge of events that were written.
+//! The judge of a trace that is read.
 
-ghost use Rattle.std.specs.Prelude.{◌≡◌, ◌+◌, ◌<◌, ◌≤◌, ◌^◌, fold, length, IfOk, IfErr, OnOk, All, Ok, false};
+ghost use Rattle.std.specs.Prelude.{◌≡◌, ◌≤◌, length, IfOk, IfErr, false};
 ghost use Rattle.access_trace.specs.Faults.{IsFaultOf};
-ghost use Rattle.access_trace.specs.Grammar.{IsEvent};
 ghost use Rattle.access_trace.specs.Traces.{trace_of};
-ghost use Rattle.trace_check.specs.Verdicts.{held, standing_at, start};
-ghost use Rattle.checked_run.specs.Trials as law;
+ghost use Rattle.trace_check.specs.Verdicts.{standing_at, start};
+ghost use Rattle.checked_run.specs.RunTexts as law;
 
-use access_trace::{Event, TraceFault, TraceReader};
+use access_trace::{TraceFault, TraceReader};
 use r4_shape::Shape;
 use std::alloc::Global;
 use trace_check::Judge;
-
-/// Shows a judge events, one after the other.
-pub(crate) fn judge_all(judge: &mut Judge, events: &[Event])
-    requires grammar { All IsEvent events.now }
-    requires count { judge.old.events + length events.now < 2 ^ 64 }
-    ensures standing { standing_at judge.new ≡ fold (held judge.old.ledger.shape) (standing_at judge.old) events.now }
-    ensures count { judge.new.events ≡ judge.old.events + length events.now }
-    ensures shape { judge.new.ledger.shape ≡ judge.old.ledger.shape }
-{
-    for event in events {
-        let _ = judge.judge(event);
-    }
-}
 
 // A judge who has seen no event.
 fn new_judge(alloc: Global, shape: Shape) -> Result<Judge, TraceFault>

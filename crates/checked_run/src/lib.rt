@@ -1,16 +1,13 @@
-//! A run that is judged while it is made, and a trace that is judged while it is read.
+//! A run that is judged and written while it is made, and a trace that is judged while it is read.
 //!
 //! - `judging`: a judge of events that were written.
-//! - `trial`: a traced machine with the judge of its events, and the run.
-//! - `writing`: the same run, of which each event is written as it comes; the report and the verdict.
+//! - `writing`: the run of a bench, of which each event is written as it comes; the report and the verdict.
 //!
-//! The definitions stand in specs/Trials.antt: what stands after a run is that of the machine's run and of its trace.
+//! What is written stands in specs/RunTexts.antt; the bench and its run are those of `flat_bridge`.
 #![tactic(auto)]
 
 mod judging;
-mod trial;
 mod writing;
 
 pub use judging::judge_text;
-pub use trial::Trial;
 pub use writing::{write_checked, write_judged, write_traced};

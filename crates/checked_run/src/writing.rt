@@ -1,66 +1,106 @@
 //! A run whose events are written as they come, and then its report and the verdict.
 
-ghost use Rattle.std.specs.Prelude.{◌≡◌, ◌+◌, ◌<◌, ◌^◌, OnOk, OnErr, true, false};
+ghost use Rattle.std.specs.Prelude.{◌≡◌, ◌+◌, ◌<◌, ◌^◌, IfSome, OnOk, OnErr, true, false};
+ghost use Rattle.access_trace.specs.Grammar.{IsEvent};
 ghost use Rattle.access_trace.specs.Traces.{events_text};
+ghost use Rattle.machine_core.specs.TickEvents.{events_of, listed};
 ghost use Rattle.machine_core.specs.Traced.{machine_in, run_events, tick_events};
 ghost use Rattle.r4_ports.specs.Told.{Appended, AppendedPrefix, HasCause};
 ghost use Rattle.r4_ports.specs.Writing.{Writes, stand};
 ghost use Rattle.run_report.specs.Verdict.{verdict_text};
 ghost use Rattle.trace_check.specs.Verdicts.{verdict_by, event_by};
-ghost use Rattle.checked_run.specs.Trials as law;
+ghost use Rattle.flat_bridge.specs.Benches.{HasRun, IsCounted, Ticked, events_in};
+ghost use Rattle.flat_bridge.specs.Runs.{RunWasFlat};
+ghost use Rattle.checked_run.specs.RunTexts as law;
 
-use crate::trial::Trial;
+use access_trace::Event;
+use flat_bridge::Bench;
+use machine_core::{Log, beat_of_log, event_of_log, shows_fetch};
 use mips3_exec::Tick;
 use r4_ports::{Pending, Sink, SinkFault, finish};
-use run_report::{put_end, put_events, put_report, put_verdict};
+use run_report::{put_end, put_event, put_report, put_verdict};
 use trace_check::Judge;
+
+// Writes the line of an event, where there is one.
+#[inline(always)]
+fn put_if<K: Sink>(event: &Option<Event>, out: &mut K, pending: &mut Pending)
+    requires { IfSome event.now IsEvent }
+    ensures writes { Writes (stand K.written K.faults out.old pending.old)
+        (stand K.written K.faults out.new pending.new) (events_text (listed event.now)) }
+{
+    if let Some(event) = event {
+        put_event(event, out, pending);
+    }
+}
+
+// Writes the events of a tick.
+#[inline(always)]
+fn put_tick_events<K: Sink>(tick: u32, span: u32, log: &Log, out: &mut K, pending: &mut Pending)
+    ensures writes { Writes (stand K.written K.faults out.old pending.old)
+        (stand K.written K.faults out.new pending.new) (events_text (events_of tick span log.now)) }
+{
+    put_if(&beat_of_log(tick, log.beat()), out, pending);
+    let shown = shows_fetch(span, log);
+    put_if(&event_of_log(tick, shown, log.fetch()), out, pending);
+    put_if(&event_of_log(tick, span == 0, log.access()), out, pending);
+}
 
 // Makes one tick, and writes its events.
 #[tactic(auto, using(crate::proofs::Written::writes_halted))]
-fn put_tick<K: Sink>(trial: &mut Trial, out: &mut K, pending: &mut Pending) -> Tick
-    requires ticks { trial.old.machine.cpu.ticks < 4294967295 }
-    requires counted { law.IsCounted trial.old }
-    ensures ticked { law.Ticked trial.old trial.new result }
+fn put_tick<K: Sink>(bench: &mut Bench, out: &mut K, pending: &mut Pending) -> Tick
+    requires ticks { bench.old.machine.cpu.ticks < 4294967295 }
+    requires counted { IsCounted bench.old }
+    ensures ticked { Ticked bench.old bench.new result }
     ensures writes { Writes (stand K.written K.faults out.old pending.old)
         (stand K.written K.faults out.new pending.new)
-        (events_text (tick_events trial.old.machine.span_left (machine_in trial.old.machine))) }
+        (events_text (tick_events bench.old.machine.span_left (machine_in bench.old.machine))) }
 {
-    if let Some(code) = trial.machine.cpu.halt {
+    if let Some(code) = bench.halted() {
         return Tick::Halted(code);
     }
-    let answer = trial.tick();
-    put_events(trial.machine.events(), out, pending);
+    let (ticks, span) = (bench.ticks(), bench.span());
+    let answer = bench.advance();
+    put_tick_events(ticks, span, bench.log(), out, pending);
     answer
 }
 
 // Makes so many ticks, up to one that halts, and writes the events of each, up to a write that fails.
-fn put_run<K: Sink>(trial: &mut Trial, steps: u32, out: &mut K, pending: &mut Pending)
-    requires ticks { trial.old.machine.cpu.ticks + steps < 2 ^ 32 }
-    requires counted { law.IsCounted trial.old }
+fn put_run<K: Sink>(bench: &mut Bench, steps: u32, out: &mut K, pending: &mut Pending)
+    requires ticks { bench.old.machine.cpu.ticks + steps < 2 ^ 32 }
+    requires counted { IsCounted bench.old }
     ensures writes { Writes (stand K.written K.faults out.old pending.old)
         (stand K.written K.faults out.new pending.new)
-        (events_text (law.events_in steps trial.old)) }
-    ensures whole { pending.new.failed ≡ false → law.HasRun steps trial.old trial.new }
+        (events_text (events_in steps bench.old)) }
+    ensures whole { pending.new.failed ≡ false → HasRun steps bench.old bench.new }
 {
     for step in 0..steps {
         if pending.failed {
             return;
         }
-        match put_tick(trial, out, pending) {
+        match put_tick(bench, out, pending) {
             Tick::Ran | Tick::Trapped(_) => {}
             Tick::Halted(_) => return,
         }
     }
 }
 
-// Writes the report of a trial and the verdict on it, unless a write failed before.
-fn put_checked<K: Sink>(trial: &Trial, out: &mut K, pending: &mut Pending)
+// Writes the verdict on the events of a bench, unless a write failed before.
+fn put_verdict_on<K: Sink>(bench: &Bench, out: &mut K, pending: &mut Pending)
     ensures writes { Writes (stand K.written K.faults out.old pending.old)
         (stand K.written K.faults out.new pending.new)
-        (law.checked_text (machine_in trial.now.machine) trial.now.judge.first) }
+        (verdict_text (verdict_by bench.now.judge.first) (event_by bench.now.judge.first)) }
 {
-    put_report(&trial.machine.view(), out, pending);
-    put_judged(&trial.judge, out, pending);
+    put_verdict(&bench.verdict(), &bench.first(), out, pending);
+}
+
+// Writes the report of a bench's machine and the verdict on it, unless a write failed before.
+fn put_checked<K: Sink>(bench: &Bench, out: &mut K, pending: &mut Pending)
+    ensures writes { Writes (stand K.written K.faults out.old pending.old)
+        (stand K.written K.faults out.new pending.new)
+        (law.checked_text (machine_in bench.now.machine) bench.now.judge.first) }
+{
+    put_report(&bench.view(), out, pending);
+    put_verdict_on(bench, out, pending);
 }
 
 // Writes the verdict of a judge, unless a write failed before.
@@ -86,49 +126,66 @@ pub fn write_judged<K: Sink>(judge: &Judge, out: &mut K) -> Result<(), SinkFault
     finish(out, &mut pending)
 }
 
-/// Writes the report of a trial and the verdict on it. After Ok it has gone out; where a write fails, a prefix of it was written.
-pub fn write_checked<K: Sink>(trial: &Trial, out: &mut K) -> Result<(), SinkFault>
+/// Writes the report of a bench's machine and the verdict on it. After Ok it has gone out; where a write fails, a prefix of it was written.
+pub fn write_checked<K: Sink>(bench: &Bench, out: &mut K) -> Result<(), SinkFault>
     ensures ok { OnOk result (Appended (K.written out.old) (K.written out.new)
-        (law.checked_text (machine_in trial.now.machine) trial.now.judge.first)) }
+        (law.checked_text (machine_in bench.now.machine) bench.now.judge.first)) }
     ensures flushed { OnOk result (K.is_flushed out.new ≡ true) }
     ensures err { OnErr result (AppendedPrefix (K.written out.old) (K.written out.new)
-        (law.checked_text (machine_in trial.now.machine) trial.now.judge.first)) }
+        (law.checked_text (machine_in bench.now.machine) bench.now.judge.first)) }
     ensures cause { HasCause (K.faults out.old) (K.faults out.new) result }
 {
     let mut pending = Pending::new();
-    put_checked(trial, out, &mut pending);
+    put_checked(bench, out, &mut pending);
     finish(out, &mut pending)
 }
 
 // Makes so many ticks, up to one that halts, and writes the trace, the report and the verdict, up to a write that fails.
-fn put_traced<K: Sink>(trial: &mut Trial, steps: u32, out: &mut K, pending: &mut Pending)
-    requires ticks { trial.old.machine.cpu.ticks + steps < 2 ^ 32 }
-    requires counted { law.IsCounted trial.old }
+fn put_traced<K: Sink>(bench: &mut Bench, steps: u32, out: &mut K, pending: &mut Pending)
+    requires ticks { bench.old.machine.cpu.ticks + steps < 2 ^ 32 }
+    requires counted { IsCounted bench.old }
     ensures writes { Writes (stand K.written K.faults out.old pending.old)
-        (stand K.written K.faults out.new pending.new) (law.traced_text steps trial.old) }
-    ensures whole { pending.new.failed ≡ false → law.HasRun steps trial.old trial.new }
+        (stand K.written K.faults out.new pending.new) (law.traced_text steps bench.old) }
+    ensures whole { pending.new.failed ≡ false → HasRun steps bench.old bench.new }
 {
-    put_run(trial, steps, out, pending);
+    put_run(bench, steps, out, pending);
     if pending.failed {
         return;
     }
     put_end(out, pending);
-    put_checked(trial, out, pending);
+    put_checked(bench, out, pending);
+}
+
+// Makes such a run and writes it. After Ok all has gone out.
+fn write_run<K: Sink>(bench: &mut Bench, steps: u32, out: &mut K) -> Result<(), SinkFault>
+    requires ticks { bench.old.machine.cpu.ticks + steps < 2 ^ 32 }
+    requires counted { IsCounted bench.old }
+    ensures ok { OnOk result (Appended (K.written out.old) (K.written out.new) (law.traced_text steps bench.old)) }
+    ensures flushed { OnOk result (K.is_flushed out.new ≡ true) }
+    ensures err { OnErr result
+        (AppendedPrefix (K.written out.old) (K.written out.new) (law.traced_text steps bench.old)) }
+    ensures cause { HasCause (K.faults out.old) (K.faults out.new) result }
+    ensures whole { OnOk result (HasRun steps bench.old bench.new) }
+{
+    let mut pending = Pending::new();
+    put_traced(bench, steps, out, &mut pending);
+    finish(out, &mut pending)
 }
 
 /// Makes so many ticks, up to one that halts. The trace is written while they are made, and then the report and the verdict. After
-/// Ok all has gone out; where a write fails, a prefix of it was written, and no further tick is made.
-pub fn write_traced<K: Sink>(trial: &mut Trial, steps: u32, out: &mut K) -> Result<(), SinkFault>
-    requires ticks { trial.old.machine.cpu.ticks + steps < 2 ^ 32 }
-    requires counted { law.IsCounted trial.old }
-    ensures ok { OnOk result (Appended (K.written out.old) (K.written out.new) (law.traced_text steps trial.old)) }
+/// Ok all has gone out; where a write fails, a prefix of it was written, and no further tick is made. Where no event of it breaks a
+/// rule, the run is one of the flat machine.
+pub fn write_traced<K: Sink>(bench: &mut Bench, steps: u32, out: &mut K) -> Result<(), SinkFault>
+    requires ticks { bench.old.machine.cpu.ticks + steps < 2 ^ 32 }
+    requires counted { IsCounted bench.old }
+    ensures ok { OnOk result (Appended (K.written out.old) (K.written out.new) (law.traced_text steps bench.old)) }
     ensures flushed { OnOk result (K.is_flushed out.new ≡ true) }
     ensures err { OnErr result
-        (AppendedPrefix (K.written out.old) (K.written out.new) (law.traced_text steps trial.old)) }
+        (AppendedPrefix (K.written out.old) (K.written out.new) (law.traced_text steps bench.old)) }
     ensures cause { HasCause (K.faults out.old) (K.faults out.new) result }
-    ensures whole { OnOk result (law.HasRun steps trial.old trial.new) }
+    ensures whole { OnOk result (HasRun steps bench.old bench.new) }
+    ensures flat { OnOk result (RunWasFlat steps bench.old) }
 {
-    let mut pending = Pending::new();
-    put_traced(trial, steps, out, &mut pending);
-    finish(out, &mut pending)
+    let _calm = bench.calm();
+    write_run(bench, steps, out)
 }

@@ -1,7 +1,9 @@
 //! The outside of a case: the files, and how the outside fails.
 
 use crate::fault::Fault;
-use crate::text::{byte_of, bytes_of, image_of, lines_of, number_of, numbers_of, word_of};
+use crate::text::{
+    add_lines, byte_of, bytes_of, image_of, lines_of, multiples_of, number_of, numbers_of, word_of,
+};
 use r4_ports::{MemShelf, MemSink, SureShelf};
 use std::alloc::{AllocError, Global};
 
@@ -12,13 +14,14 @@ pub struct File {
     pub bytes: Vec<u8>,
 }
 
-/// The files; the numbers of the shelf's calls and of the sink's, writes and flushes, that fail; the room of the sink.
+/// The files; the numbers of the shelf's calls and of the sink's, writes and flushes, that fail; the room of the sink and of the shelf.
 #[derive(Drop)]
 pub struct Scene {
     files: Vec<File>,
     calls: Vec<u64>,
     writes: Vec<u64>,
     room: usize,
+    shelf_room: usize,
 }
 
 // The word before the first blank, and the rest.
@@ -32,6 +35,12 @@ fn image_said(alloc: Global, text: &str) -> Result<Vec<u8>, Fault> {
     image_of(alloc, word_of(base)?, words)
 }
 
+// The words that a text says: how many, and the factor by which each is its place.
+fn words_said(alloc: Global, text: &str) -> Result<Vec<u8>, Fault> {
+    let (count, factor) = cut_word(text);
+    multiples_of(alloc, number_of(count)?, word_of(factor)?)
+}
+
 // Cuts bytes to a length, or fills them up to it.
 fn resize(bytes: &mut Vec<u8>, text: &str) -> Result<(), Fault> {
     let (length, byte) = cut_word(text);
@@ -40,13 +49,14 @@ fn resize(bytes: &mut Vec<u8>, text: &str) -> Result<(), Fault> {
 }
 
 impl Scene {
-    /// No files, an outside that does not fail, and a sink with ample room.
+    /// No files, an outside that does not fail, a sink with ample room, and a shelf with room for small files.
     pub fn new(alloc: Global) -> Scene {
         Scene {
             files: Vec::new(alloc),
             calls: Vec::new(alloc),
             writes: Vec::new(alloc),
             room: 8192,
+            shelf_room: 4096,
         }
     }
 
@@ -97,6 +107,14 @@ impl Scene {
         Ok(self.set_file(alloc, name, bytes)?)
     }
 
+    // Appends lines to a text.
+    fn add_lines(&mut self, alloc: Global, name: &str, text: &str) -> Result<(), Fault> {
+        let mut bytes = self.copy_of(alloc, name)?;
+        add_lines(&mut bytes, "|")?;
+        add_lines(&mut bytes, text)?;
+        Ok(self.set_file(alloc, name, bytes)?)
+    }
+
     // Changes a file, or how the outside fails, as a line of a script says.
     fn set_named(
         &mut self,
@@ -109,6 +127,7 @@ impl Scene {
             "file" => bytes_of(alloc, rest)?,
             "image" => image_said(alloc, rest)?,
             "text" => lines_of(alloc, rest)?,
+            "words" => words_said(alloc, rest)?,
             _ => return Err(Fault::Unread),
         };
         Ok(self.set_file(alloc, name, bytes)?)
@@ -121,6 +140,8 @@ impl Scene {
             "failing-calls" => self.calls = numbers_of(alloc, rest)?,
             "failing-writes" => self.writes = numbers_of(alloc, rest)?,
             "room" => self.room = number_of(rest)?,
+            "shelf-room" => self.shelf_room = number_of(rest)?,
+            "more" => self.add_lines(alloc, name, said)?,
             "length" => self.resize_file(alloc, name, said)?,
             _ => self.set_named(alloc, verb, name, said)?,
         }
@@ -140,7 +161,7 @@ impl Scene {
     /// The shelf of the scene.
     pub fn shelf(&self, alloc: Global) -> Result<MemShelf, AllocError> {
         let failing = Vec::from_slice(alloc, &self.calls)?;
-        Ok(MemShelf::new(alloc, self.shelved(alloc)?, 4096, failing)?)
+        Ok(MemShelf::new(alloc, self.shelved(alloc)?, self.shelf_room, failing)?)
     }
 
     /// A shelf with the same files that never fails.

@@ -72,11 +72,28 @@ pub fn bytes_of(alloc: Global, text: &str) -> Result<Vec<u8>, Fault> {
     Ok(bytes)
 }
 
-/// The bytes of a text, in which a bar stands for the end of a line.
+/// Appends the bytes of a text, in which a bar stands for the end of a line.
+pub fn add_lines(bytes: &mut Vec<u8>, text: &str) -> Result<(), Fault> {
+    for byte in text.as_bytes() {
+        add_byte(bytes, if *byte == b'|' { b'\n' } else { *byte })?;
+    }
+    Ok(())
+}
+
+/// The bytes of such a text.
 pub fn lines_of(alloc: Global, text: &str) -> Result<Vec<u8>, Fault> {
     let mut bytes = Vec::new(alloc);
-    for byte in text.as_bytes() {
-        add_byte(&mut bytes, if *byte == b'|' { b'\n' } else { *byte })?;
+    add_lines(&mut bytes, text)?;
+    Ok(bytes)
+}
+
+/// So many words, each the product of its place and a factor, without what passes 32 bits.
+pub fn multiples_of(alloc: Global, count: usize, factor: u32) -> Result<Vec<u8>, Fault> {
+    let mut bytes = Vec::new(alloc);
+    let mut word = 0u32;
+    for _ in 0..count {
+        bytes.extend_from_slice(&word.to_be_bytes())?;
+        word = word.wrapping_add(factor);
     }
     Ok(bytes)
 }

@@ -1,23 +1,26 @@
 //! The verbs of a script.
 //!
-//! Lines that set the scene: `# TITLE` begins a case, without files and faults; `file NAME WORDS` sets a file to the bytes
-//! of hexadecimal words, `image NAME BASE WORDS` to the image of the words, loaded at the base and entered there, and `text
-//! NAME TEXT` to a text in which a bar ends a line; `length NAME NUMBER BYTE` cuts a file to so many bytes, or fills it up
-//! with the byte; `failing-calls NUMBERS` and `failing-writes NUMBERS` say which calls of the shelf and of the sink, writes
-//! and flushes, fail, counted from 0, and `room NUMBER` how many bytes the sink takes.
+//! Lines that set the scene: `# TITLE` begins a case, without files and faults; `file NAME WORDS` sets a file to the bytes of
+//! hexadecimal words, `image NAME BASE WORDS` to the image of the words, loaded at the base and entered there, and `text NAME TEXT`
+//! to a text in which a bar ends a line, to which `more NAME TEXT` adds a line end and further text; `words NAME COUNT FACTOR` to
+//! so many words, each the product of its place and the hexadecimal factor; `length NAME NUMBER BYTE` cuts a file to so many bytes,
+//! or fills it up with the byte; `failing-calls NUMBERS` and `failing-writes NUMBERS` say which calls of the shelf and of the sink,
+//! writes and flushes, fail, counted from 0, and `room NUMBER` how many bytes the sink takes, `shelf-room NUMBER` how many the
+//! shelf.
 //!
-//! Command lines, whose WORDS have bars between them: `do WORDS` shows the answer and its number, the calls of the shelf, the
-//! files that are changed or new, in which a star stands for rows as the one above them, how many calls failed, whether what
-//! was written has not gone out, and the text that was written, a line behind each angle and the rest of one that was not ended
-//! behind a tilde. `part WORDS` shows in place of the text how much was written of what ports that never fail are given, and
-//! `lines BEGINS WORDS` the lines that begin so; commas stand between several. `sure WORDS` is carried out over ports that
-//! never fail. The answer and such lines: `tells BEGINS WORDS`. The answer alone: `answer WORDS`; `reads SCRIPT` of a run of
-//! the image a for no ticks with this script, of which a bar ends a line; `steps NUMBER WORDS` of a run, for at most so many
-//! ticks, of the image of hexadecimal words at a0010000, and `shows NUMBER BEGINS WORDS` the lines of its report that begin so;
-//! `cut NAME FIRST LAST WORDS` and `spoil NAME FIRST LAST WORDS`, where the file is cut to each of these lengths in turn, or
-//! its byte at each of these places made greater by one. `asks WORDS` shows how much of each file the shelf is asked for.
-//! `status STATUS` shows the line and the number of a status, and `report STATUS` the number with which the program ends with
-//! it, and what it writes to the sink of the scene before that.
+//! Command lines, whose WORDS have bars between them: `do WORDS` shows the answer and its number, the calls of the shelf, the files
+//! that are changed or new, in which a star stands for rows as the one above them, how many calls failed, whether what was written
+//! has not gone out, and the text that was written, a line behind each angle and the rest of one that was not ended behind a tilde.
+//! `part WORDS` shows in place of the text how much was written of what ports that never fail are given, and `lines BEGINS WORDS`
+//! the lines that begin so; commas stand between several. `sure WORDS` is carried out over ports that never fail. The answer and
+//! such lines: `tells BEGINS WORDS`; `keep NAME BEGINS WORDS` tells them too, and sets the file of that name to the one that was
+//! put; `same NAME FIRST OTHER SECOND COUNT` then says whether so many bytes of a file from one place on are those of another file
+//! from another place on. The answer alone: `answer WORDS`; `reads SCRIPT` of a run of the image a for no ticks with this script,
+//! of which a bar ends a line; `steps NUMBER WORDS` of a run, for at most so many ticks, of the image of hexadecimal words at
+//! a0010000, and `shows NUMBER BEGINS WORDS` the lines of its report that begin so; `cut NAME FIRST LAST WORDS` and `spoil NAME
+//! FIRST LAST WORDS`, where the file is cut to each of these lengths in turn, or its byte at each of these places made greater by
+//! one. `asks WORDS` shows how much of each file the shelf is asked for. `status STATUS` shows the line and the number of a status,
+//! and `report STATUS` the number with which the program ends with it, and what it writes to the sink of the scene before that.
 
 use crate::fault::Fault;
 use crate::scene::Scene;
@@ -64,6 +67,53 @@ fn show_told(
     let seen = perform(alloc, scene, line)?;
     put_status(alloc, &seen.status, out)?;
     put_text(seen.sink.bytes(), begins, out)
+}
+
+// Shows the same, and sets a file of the scene to the one that the shelf then has.
+fn show_kept(
+    alloc: Global,
+    scene: &mut Scene,
+    name: &str,
+    text: &str,
+    out: &mut String,
+) -> Result<(), Fault> {
+    let (begins, line) = cut_word(text)?;
+    let seen = perform(alloc, scene, line)?;
+    put_status(alloc, &seen.status, out)?;
+    put_text(seen.sink.bytes(), begins, out)?;
+    let Some(bytes) = seen.shelf.file(name) else {
+        return Err(Fault::Unread);
+    };
+    writeln!(out, "| {name} has {} bytes", bytes.len())?;
+    Ok(scene.set_file(alloc, name, Vec::from_slice(alloc, bytes)?)?)
+}
+
+// So many bytes of a file from a place on.
+fn part_of<'a>(scene: &'a Scene, name: &str, place: &str, count: usize) -> Result<&'a [u8], Fault> {
+    let place = number_of(place)?;
+    let Some(end) = place.checked_add(count) else {
+        return Err(Fault::Unread);
+    };
+    match scene.file(name) {
+        Some(bytes) => bytes.get(place..end).ok_or(Fault::Unread),
+        None => Err(Fault::Unread),
+    }
+}
+
+// Says whether a part of a file is the same as a part of another.
+fn show_same(scene: &Scene, text: &str, out: &mut String) -> Result<(), Fault> {
+    let (name, text) = cut_word(text)?;
+    let (first, text) = cut_word(text)?;
+    let (other, text) = cut_word(text)?;
+    let (second, count) = cut_word(text)?;
+    let count = number_of(count)?;
+    let part = part_of(scene, name, first, count)?;
+    let is_same = part == part_of(scene, other, second, count)?;
+    Ok(out.push_str(if is_same {
+        "| the same\n"
+    } else {
+        "| not the same\n"
+    })?)
 }
 
 // Shows the answer of a run of the image a for no ticks with this script.
@@ -264,6 +314,8 @@ fn carry_out_with(
     match verb {
         "lines" => Ok(show(alloc, scene, first, second, out)?),
         "tells" => Ok(show_told(alloc, scene, first, second, out)?),
+        "keep" => show_kept(alloc, scene, first, second, out),
+        "same" => show_same(scene, rest, out),
         "steps" => show_steps(alloc, scene, first, second, out),
         "shows" => show_lines(alloc, scene, first, second, out),
         "cut" => show_changes(alloc, scene, Change::Cut, rest, out),

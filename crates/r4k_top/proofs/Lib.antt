@@ -1,4 +1,6 @@
 pub mod Delivery
 pub mod Headline
 pub mod Reading
-pub mod Trials
+pub mod Benches
+pub mod FlatEnds
+pub mod SurePorts

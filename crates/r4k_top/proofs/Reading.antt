@@ -276,12 +276,12 @@ of_told None name P is files told = cc
 of_told (Some own) name P is files told = subst (λ f. P (file_of f name)) (some_same own files told) is
 
 -- a fact of a file that may be left out, and that is told
-given_told : (held : Option Files) (name : Option (List ℕ)) (P : List ℕ → Type 0) → OfGiven held name P → (files : Files) → held ≡ Some files → P (bytes_given (file_of files) name)
+pub given_told : (held : Option Files) (name : Option (List ℕ)) (P : List ℕ → Type 0) → OfGiven held name P → (files : Files) → held ≡ Some files → P (bytes_given (file_of files) name)
 given_told held None P is files told = is
 given_told held (Some name) P is files told = of_told held name P is files told
 
 -- what a script says that may be left out, and that is told
-script_told : (held : Option Files) (name : Option (List ℕ)) (inputs : List Input) → OfScript held name inputs → (files : Files) → held ≡ Some files → script_given (file_of files) name ≡ Inputs inputs
+pub script_told : (held : Option Files) (name : Option (List ℕ)) (inputs : List Input) → OfScript held name inputs → (files : Files) → held ≡ Some files → script_given (file_of files) name ≡ Inputs inputs
 script_told held None inputs is files told = ap Inputs (sym is)
 script_told held (Some name) inputs is files told = of_told held name (λ bytes. script_text bytes ≡ Inputs inputs) is files told
 

@@ -7,8 +7,8 @@ use Rattle.run_report.specs.Report.{report_of}
 use Rattle.access_trace.specs.Traces.{trace_text}
 use Rattle.machine_core.specs.Run.{run_of}
 use Rattle.machine_core.specs.Traced.{machine_in}
-use Rattle.checked_run.specs.declared.trial.Trial.{Trial}
-use Rattle.checked_run.specs.Trials.{events_in, standing_after}
+use Rattle.flat_bridge.specs.Runs.{RunWasFlat}
+use Rattle.flat_bridge.specs.Benches.{BenchState, events_in, standing_after}
 use Rattle.r4k_top.specs.declared.product.FileMade.{FileMade}
 use Rattle.r4k_top.specs.declared.product.Finished.{Finished}
 use Rattle.r4k_top.specs.declared.product.Finished.TheVariants as finished
@@ -27,16 +27,16 @@ file_shown None = None
 file_shown (Some file) = Some (record { name = file.name.now; bytes = file.bytes.now })
 
 -- what a run that is still to be made and traced comes to
-abbrev pub traced_shown : Option (List ℕ) → ℕ → Trial → Made
-traced_shown out steps trial =
-    checked out (trace_text (events_in steps trial)) (standing_after trial (events_in steps trial)).first
-    (run_of steps (machine_in trial.machine)).machine
+abbrev pub traced_shown : Option (List ℕ) → ℕ → BenchState → Made
+traced_shown out steps bench =
+    checked out (trace_text (events_in steps bench)) (standing_after bench (events_in steps bench)).first
+    (run_of steps (machine_in bench.machine)).machine
 
 -- what is made already
 abbrev pub finished_shown : Finished → Made
 finished_shown (finished.Report machine out) =
     record { verdict = None; text = report_of (shown_of machine); file = named_file (out_shown out) (shown_of machine).disk }
-finished_shown (finished.Checked trial out) = checked (out_shown out) [] trial.judge.first (machine_in trial.machine)
+finished_shown (finished.Checked bench out) = checked (out_shown out) [] bench.judge.first (machine_in bench.machine)
 finished_shown (finished.Judged judge) = judged judge.first
 finished_shown (finished.Listing image) = record { verdict = None; text = listing_of image; file = None }
 finished_shown (finished.File name bytes) =
@@ -45,4 +45,9 @@ finished_shown (finished.File name bytes) =
 -- what a job makes
 abbrev pub made_shown : Product → Made
 made_shown (product.Finished finished) = finished_shown finished
-made_shown (product.Traced run out) = traced_shown (out_shown out) run.steps run.trial
+made_shown (product.Traced run out) = traced_shown (out_shown out) run.steps run.bench
+
+-- A run that is still to be made, where something is promised of it: where no event of it breaks a rule it is one of the flat machine.
+abbrev pub RunWillBeFlat : Product → Type 0
+RunWillBeFlat (product.Finished finished) = Unit {0}
+RunWillBeFlat (product.Traced run out) = RunWasFlat run.steps run.bench

@@ -8,3 +8,4 @@ pub mod StatusText
 pub mod Answers
 pub mod Clauses
 pub mod Making
+pub mod FlatRuns

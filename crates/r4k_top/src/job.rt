@@ -4,14 +4,17 @@
 ghost use Rattle.std.specs.Prelude.{◌≡◌, ◌≤◌, length, IfOk, IfErr, OnOk, Some};
 ghost use Rattle.r4_ports.specs.Told.{Rose, Appended};
 ghost use Rattle.machine_core.specs.Machine.{reset_of};
-ghost use Rattle.checked_run.specs.Trials.{Begins};
+ghost use Rattle.machine_core.specs.Traced.{machine_in};
+ghost use Rattle.flat_bridge.specs.Beside.{newest_of};
+ghost use Rattle.flat_bridge.specs.Benches.{Begins};
 ghost use Rattle.r4k_top.specs.BootProm.{boot_prom};
 ghost use Rattle.r4k_top.specs.Command as law;
 ghost use Rattle.r4k_top.specs.CommandShown.{name_shown, plan_shown, command_shown};
 ghost use Rattle.r4k_top.specs.Wanted.{disk_limit, wanted_by};
 ghost use Rattle.r4k_top.specs.Outcome.{Makes, Refuses, run_job};
 ghost use Rattle.r4k_top.specs.Answers.{status_of};
-ghost use Rattle.r4k_top.specs.EndShown.{out_shown, made_shown};
+ghost use Rattle.r4k_top.specs.EndShown.{out_shown, made_shown, RunWillBeFlat};
+ghost use Rattle.r4k_top.specs.FlatRuns.{flat_from, IsFlatWhereYes, ToldFlat, YesIsFlat};
 ghost use Rattle.r4k_top.specs.Making.{MayStop, AllAccepted, fetches, MadeOf, StoppedWith, IsSetup};
 
 use crate::commands::Command;
@@ -24,8 +27,8 @@ use crate::prom_words::boot_prom;
 use crate::statuses::Status;
 use crate::telling::Telling;
 use crate::traced_run::TracedRun;
-use checked_run::Trial;
 use elf_image::write_image;
+use flat_bridge::Bench;
 use input_script::Script;
 use machine_core::Machine;
 use r4_ports::Shelf;
@@ -78,11 +81,13 @@ fn report_run<'a>(
     Ok(Product::Finished(Finished::Report { machine, out }))
 }
 
-// The trial of a run, of which no tick was made.
-fn start_trial(alloc: Global, plan: &Plan<'_>, setup: Setup) -> Result<Trial, Status>
+// The bench of a run, of which no tick was made.
+fn start_bench(alloc: Global, plan: &Plan<'_>, setup: Setup) -> Result<Bench, Status>
     requires { length setup.disk.items ≤ disk_limit }
     ensures begins { IfOk result (Begins plan.now.shape
         (reset_of plan.now.shape boot_prom setup.image setup.disk.items setup.script)) }
+    ensures flat { IfOk result (λ bench. newest_of (machine_in bench.machine) ≡
+        flat_from plan.now.shape setup.image setup.script setup.disk.items) }
     ensures stopped { IfErr result (λ status. status ≡ Status.Memory) }
 {
     let Setup {
@@ -91,11 +96,11 @@ fn start_trial(alloc: Global, plan: &Plan<'_>, setup: Setup) -> Result<Trial, St
         disk,
     } = setup;
     let prom = boot_prom();
-    Ok(Trial::new(alloc, plan.shape, &prom, &image.image(), disk, script)?)
+    Ok(Bench::new(alloc, plan.shape, &prom, &image.image(), disk, script)?)
 }
 
 // Runs an image from reset for at most so many ticks, for its report and the verdict.
-#[tactic(auto, using(crate::proofs::Trials::check_made))]
+#[tactic(auto, using(crate::proofs::Benches::check_made, crate::proofs::FlatEnds::flat_from_reset))]
 fn check_run<'a>(
     alloc: Global,
     plan: &Plan<'_>,
@@ -105,15 +110,17 @@ fn check_run<'a>(
     requires { length setup.disk.items ≤ disk_limit }
     ensures made { IfOk result (λ product. run_job Telling.Verdict plan.now.shape plan.now.steps (out_shown out)
         setup.image setup.script setup.disk.items ≡ Makes (made_shown product)) }
+    ensures flat { OnOk result
+        (IsFlatWhereYes plan.now.shape plan.now.steps setup.image setup.script setup.disk.items) }
     ensures stopped { IfErr result (λ status. status ≡ Status.Memory) }
 {
-    let mut trial = start_trial(alloc, plan, setup)?;
-    trial.run(plan.steps);
-    Ok(Product::Finished(Finished::Checked { trial, out }))
+    let mut bench = start_bench(alloc, plan, setup)?;
+    bench.run(plan.steps);
+    Ok(Product::Finished(Finished::Checked { bench, out }))
 }
 
 // The run of an image from reset for at most so many ticks, which is made while its trace is written.
-#[tactic(auto, using(crate::proofs::Trials::trace_made, crate::proofs::Trials::no_ticks, crate::proofs::Trials::few_events))]
+#[tactic(auto, using(crate::proofs::FlatEnds::traced_run))]
 fn trace_run<'a>(
     alloc: Global,
     plan: &Plan<'_>,
@@ -123,10 +130,12 @@ fn trace_run<'a>(
     requires { length setup.disk.items ≤ disk_limit }
     ensures made { IfOk result (λ product. run_job Telling.Trace plan.now.shape plan.now.steps (out_shown out)
         setup.image setup.script setup.disk.items ≡ Makes (made_shown product)) }
+    ensures flat { IfOk result (λ product. RunWillBeFlat product →
+        IsFlatWhereYes plan.now.shape plan.now.steps setup.image setup.script setup.disk.items) }
     ensures stopped { IfErr result (λ status. status ≡ Status.Memory) }
 {
-    let trial = start_trial(alloc, plan, setup)?;
-    let run = TracedRun::new(trial, plan.steps);
+    let bench = start_bench(alloc, plan, setup)?;
+    let run = TracedRun::new(bench, plan.steps);
     Ok(Product::Traced { run, out })
 }
 
@@ -140,6 +149,8 @@ fn run_setup<'a>(
     requires { length setup.disk.items ≤ disk_limit }
     ensures made { IfOk result (λ product. run_job plan.now.telling plan.now.shape plan.now.steps (out_shown out)
         setup.image setup.script setup.disk.items ≡ Makes (made_shown product)) }
+    ensures flat { IfOk result (λ product. RunWillBeFlat product →
+        ToldFlat plan.now.telling plan.now.shape plan.now.steps setup.image setup.script setup.disk.items) }
     ensures stopped { IfErr result (λ status. status ≡ Status.Memory) }
 {
     match plan.telling {
@@ -181,6 +192,8 @@ fn make_report<'a, F: Shelf>(
 ) -> Result<Product<'a>, Status>
     ensures made { IfOk result (λ product. MadeOf (Some (law.Run (plan_shown plan.now)))
         (F.held shelf.old) (F.asked shelf.old) (F.asked shelf.new) (made_shown product)) }
+    ensures flat { IfOk result (λ product. RunWillBeFlat product →
+        YesIsFlat (Some (law.Run (plan_shown plan.now))) (F.held shelf.old)) }
     ensures stopped { IfErr result (StoppedWith (Some (law.Run (plan_shown plan.now)))
         (F.held shelf.old) (F.asked shelf.old) (F.asked shelf.new)
         (Rose (F.fetch_faults shelf.old) (F.fetch_faults shelf.new))) }
@@ -256,6 +269,8 @@ pub fn make<'a, F: Shelf>(
 ) -> Result<Product<'a>, Status>
     ensures made { IfOk result (λ product. MadeOf (Some (command_shown command.now))
         (F.held shelf.old) (F.asked shelf.old) (F.asked shelf.new) (made_shown product)) }
+    ensures flat { IfOk result (λ product. RunWillBeFlat product →
+        YesIsFlat (Some (command_shown command.now)) (F.held shelf.old)) }
     ensures stopped { IfErr result (StoppedWith (Some (command_shown command.now))
         (F.held shelf.old) (F.asked shelf.old) (F.asked shelf.new)
         (Rose (F.fetch_faults shelf.old) (F.fetch_faults shelf.new))) }

@@ -2,8 +2,9 @@
 //!
 //! Reading order: `plan` is what a run is made by; `commands` reads the words; `files` has a reader for each kind of file;
 //! `prom_words` has the PROM's words; `job` makes what a command asks for; `product` is what is made, and its way out;
-//! `statuses` says how the program ended, in numbers and lines. `workstation` is the call; its clauses say when each answer comes and what stands after it,
-//! by the definitions of `specs/Command.antt`, `specs/Wanted.antt` and `specs/Outcome.antt`.
+//! `statuses` says how the program ended, in numbers and lines. `workstation` is the call; its clauses say when each answer comes
+//! and what stands after it, by the definitions of `specs/Command.antt`, `specs/Wanted.antt`, `specs/Outcome.antt` and, for what a yes
+//! promises, `specs/FlatRuns.antt`.
 #![tactic(auto)]
 
 ghost use Rattle.std.specs.Prelude.{◌≡◌, ◌⊎◌, true, IsNone, ◌↔◌};
@@ -13,6 +14,7 @@ ghost use Rattle.r4k_top.specs.Wanted.{fetches_of, calls_of};
 ghost use Rattle.r4k_top.specs.Answers.{MayAnswer, IsComplete, IsEarly, IsRefusal, PutsNothing};
 ghost use Rattle.r4k_top.specs.Clauses.{ComesTo, EndsWith, Written, WrittenPrefix, FilePut, PutRose, OthersStay};
 ghost use Rattle.r4k_top.specs.Clauses.{AskedPrefix, AskedUpTo, WriteFailed, PutFailed};
+ghost use Rattle.r4k_top.specs.FlatRuns.{YesIsFlat};
 
 pub mod commands;
 pub mod files;
@@ -21,6 +23,7 @@ pub mod plan;
 pub mod product;
 pub mod prom_words;
 pub mod statuses;
+pub mod sure_ports;
 pub mod telling;
 pub mod traced_run;
 
@@ -53,8 +56,9 @@ pub fn workstation<F: Shelf, K: Sink>(
         ⊎ PutRose (out_name (command_of words.now)) (F.put_faults shelf.old) (F.put_faults shelf.new))
         (EndsWith (command_of words.now) (F.held shelf.old)) result }
 
-    // Done, and Breach where the verdict is no, come after all that is made was written, has gone out, and was put. WriteFault comes after a prefix of the text:
-    // a write or the flush failed, and no put was tried; or the put failed, after the whole text has gone out.
+    // Done, and Breach where the verdict is no, come after all that is made was written, has gone out, and was put. WriteFault
+    // comes after a prefix of the text: a write or the flush failed, and no put was tried; or the put failed, after the whole text
+    // has gone out.
     ensures done { IsComplete result →
         ComesTo (command_of words.now) (F.held shelf.old) (Written (K.written out.old) (K.written out.new)) }
     ensures done_flushed { IsComplete result → K.is_flushed out.new ≡ true }
@@ -87,6 +91,9 @@ pub fn workstation<F: Shelf, K: Sink>(
         AskedUpTo (command_of words.now) (F.held shelf.old) (F.asked shelf.old) (F.asked shelf.new) }
     ensures asked_all { IsComplete result →
         Appended (F.asked shelf.old) (F.asked shelf.new) (calls_of (command_of words.now)) }
+
+    // After `check` and `trace`: where the verdict is yes, the run is that of the flat machine without caches.
+    ensures flat { IsComplete result → YesIsFlat (command_of words.now) (F.held shelf.old) }
 {
     let Some(command) = read_command(words) else {
         return Status::Usage;

@@ -2,18 +2,21 @@
 
 ghost use Rattle.std.specs.Prelude.{◌≡◌, ◌≢◌, true, OnOk, OnErr, IsNone, Some};
 ghost use Rattle.r4_ports.specs.Told.{Appended, AppendedPrefix, HasCause};
+ghost use Rattle.flat_bridge.specs.Runs.{RunWasFlat};
 ghost use Rattle.r4k_top.specs.Answers as answers;
+ghost use Rattle.r4k_top.specs.Answers.{IsComplete};
 ghost use Rattle.r4k_top.specs.Wanted.{puts_to};
 ghost use Rattle.r4k_top.specs.Outcome.{file_name, named_file};
 ghost use Rattle.r4k_top.specs.Clauses.{HasPut, PutRose, OthersStay};
-ghost use Rattle.r4k_top.specs.EndShown.{out_shown, file_shown, finished_shown, traced_shown, made_shown};
+ghost use Rattle.r4k_top.specs.EndShown.{out_shown, file_shown, finished_shown, traced_shown, made_shown, RunWillBeFlat};
 ghost use Rattle.r4k_top.specs.Making.{IsLate, Placed, Delivered};
 
 use crate::files::ImageFile;
 use crate::statuses::Status;
 use crate::traced_run::TracedRun;
 use access_trace::Verdict;
-use checked_run::{Trial, write_checked, write_judged, write_traced};
+use checked_run::{write_checked, write_judged, write_traced};
+use flat_bridge::Bench;
 use image_listing::write_listing;
 use machine_core::Machine;
 use r4_ports::{PutFault, Shelf, Sink, SinkFault, write_all};
@@ -31,7 +34,7 @@ pub enum Finished<'a> {
     },
     /// The same with the verdict on the run, which is written too.
     Checked {
-        trial: Trial,
+        bench: Bench,
         out: Option<String>,
     },
     /// The judge of a trace, of which the verdict is written.
@@ -64,7 +67,7 @@ fn write_text<K: Sink>(finished: &Finished<'_>, out: &mut K) -> Result<(), SinkF
 {
     match finished {
         Finished::Report { machine, out: _ } => write_report(&machine.view(), out),
-        Finished::Checked { trial, out: _ } => write_checked(trial, out),
+        Finished::Checked { bench, out: _ } => write_checked(bench, out),
         Finished::Judged(judge) => write_judged(judge, out),
         Finished::Listing(image) => write_listing(&image.image(), out),
         Finished::File { .. } => write_all(b"", out),
@@ -90,7 +93,7 @@ fn status_of(finished: &Finished<'_>) -> Status
     ensures complete { result ≢ Status.WriteFault }
 {
     match finished {
-        Finished::Checked { trial, out: _ } => status_of_verdict(trial.judge.verdict()),
+        Finished::Checked { bench, out: _ } => status_of_verdict(bench.verdict()),
         Finished::Judged(judge) => status_of_verdict(judge.verdict()),
         Finished::Report { .. } | Finished::Listing(_) | Finished::File { .. } => Status::Done,
     }
@@ -122,7 +125,7 @@ fn file_of<'a>(finished: &'a Finished<'_>) -> Option<FileMade<'a>>
 {
     match finished {
         Finished::Report { machine, out } => disk_made(machine.view().disk, out),
-        Finished::Checked { trial, out } => disk_made(trial.machine.view().disk, out),
+        Finished::Checked { bench, out } => disk_made(bench.view().disk, out),
         Finished::Judged(_) | Finished::Listing(_) => None,
         Finished::File { name, bytes } => Some(FileMade { name, bytes }),
     }
@@ -178,13 +181,14 @@ fn deliver_traced<F: Shelf, K: Sink>(
     shelf: &mut F,
     out: &mut K,
 ) -> Status
-    ensures { Delivered F.held F.asked F.put_faults shelf.old shelf.new (K.written out.old) (K.written out.new)
+    ensures delivered { Delivered F.held F.asked F.put_faults shelf.old shelf.new (K.written out.old) (K.written out.new)
         (K.is_flushed out.new) (K.faults out.old) (K.faults out.new)
-        (traced_shown (out_shown name) run.steps run.trial) result }
+        (traced_shown (out_shown name) run.steps run.bench) result }
+    ensures flat { IsComplete result → RunWasFlat run.steps run.bench }
 {
-    let TracedRun { mut trial, steps } = run;
-    match write_traced(&mut trial, steps, out) {
-        Ok(()) => place(&Finished::Checked { trial, out: name }, shelf),
+    let TracedRun { mut bench, steps } = run;
+    match write_traced(&mut bench, steps, out) {
+        Ok(()) => place(&Finished::Checked { bench, out: name }, shelf),
         Err(_) => Status::WriteFault,
     }
 }
@@ -192,9 +196,11 @@ fn deliver_traced<F: Shelf, K: Sink>(
 /// Writes the text that a job makes, and puts its file. The answer is Done, or Breach where the verdict is no, after the whole
 /// text has gone out and the file was put; or WriteFault: a write or the flush failed, after a prefix of the text, and then the
 /// shelf stays; or the put did, after the whole text has gone out. Without a file the shelf stays; with one, its other files do.
+/// A run that was made on the way is one of the flat machine, where no event of it breaks a rule.
 pub fn deliver<F: Shelf, K: Sink>(product: Product<'_>, shelf: &mut F, out: &mut K) -> Status
-    ensures { Delivered F.held F.asked F.put_faults shelf.old shelf.new (K.written out.old) (K.written out.new)
+    ensures delivered { Delivered F.held F.asked F.put_faults shelf.old shelf.new (K.written out.old) (K.written out.new)
         (K.is_flushed out.new) (K.faults out.old) (K.faults out.new) (made_shown product.entry) result }
+    ensures flat { IsComplete result → RunWillBeFlat product.entry }
 {
     match product {
         Product::Finished(finished) => deliver_finished(&finished, shelf, out),

@@ -1,7 +1,7 @@
 use Rattle.std.proofs.Common.{◌≡◌, ◌≤◌, ◌+◌, length}
 use Rattle.access_trace.specs.Traces.{events_left, trace_of}
 use Rattle.trace_check.specs.Verdicts.{standing_at, start}
-use Rattle.checked_run.specs.Trials.{judged_from}
+use Rattle.checked_run.specs.RunTexts.{judged_from}
 use Rattle.checked_run.proofs.judging.judge_text.Given as goal
 
 -- what is left of the trace brings the judge to where the whole trace brings a new one

@@ -4,4 +4,4 @@ use Rattle.run_report.specs.Report.{report_of}
 use Rattle.checked_run.proofs.writing.put_checked.Goals as goal
 
 pub returns : goal.returns
-returns g c = record { writes = writes_then _ _ _ _ _ c.put_judged.ensures.writes (writes_same _ _ _ _ c.put_report.ensures.writes (ap report_of c.view.ensures.shown)) }
+returns g c = record { writes = writes_then _ _ _ _ _ c.put_verdict_on.ensures.writes (writes_same _ _ _ _ c.put_report.ensures.writes (ap report_of c.view.ensures.shown)) }

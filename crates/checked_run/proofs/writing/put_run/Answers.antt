@@ -1,8 +1,16 @@
 use Rattle.std.proofs.Common.{rules, arith, ◌≡◌, ◌+◌, ◌-◌, ap, true}
 use Rattle.mips3_exec.specs.Tick.{goes_on}
-use Rattle.checked_run.proofs.Runs.{under_way_more, run_made, run_halted}
-use Rattle.checked_run.proofs.Written.{writing_more, writing_made, writing_halted}
+use Rattle.flat_bridge.proofs.BenchRuns.{under_way_first, under_way_more, run_made, run_halted}
+use Rattle.checked_run.proofs.Written.{writing_first, writing_more, writing_made, writing_halted}
 use Rattle.checked_run.proofs.writing.put_run.Goals as goal
+
+pub loop-step-init : goal.loop-step-init
+loop-step-init g c = (
+  under_way_first (c.args.steps - 0) c.args.steps c.args.bench.now (omega arith),
+  writing_first (c.args.steps - 0) c.args.steps c.args.bench.now _ (omega arith),
+  omega arith,
+  c.requires.counted,
+)
 
 pub returns-in-Halted-clause-writes : goal.returns-in-Halted-clause-writes
 returns-in-Halted-clause-writes g c =

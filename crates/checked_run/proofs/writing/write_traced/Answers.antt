@@ -1,10 +1,10 @@
-use Rattle.r4_ports.specs.Writing.{IsFresh, stand}
-use Rattle.r4_ports.proofs.Writing.{err_appended}
-use Rattle.checked_run.specs.Trials.{traced_text}
+use Rattle.std.proofs.Common.{OnOk, Result, Ok, Err}
+use Rattle.flat_bridge.proofs.BenchLevels.{run_was_flat}
 use Rattle.checked_run.proofs.writing.write_traced.Goals as goal
 
-pub returns-clause-err : goal.returns-clause-err
-returns-clause-err g c =
-    let stand_of = stand g.K.Sink.written g.K.Sink.faults in
-    let fresh : IsFresh (stand_of c.args.out.now c.new-pending.result) = record { pending = c.new-pending.ensures.piece; failed = c.new-pending.ensures.failed } in
-    err_appended _ _ _ (traced_text c.args.steps c.args.trial.now) c.finish.result fresh c.put_traced.ensures.writes c.finish.ensures.writes c.finish.ensures.err
+where_ok : {X E : Type 0} {P Q : Type 0} (result : Result X E) → OnOk result P → (P → Q) → OnOk result Q
+where_ok (Ok x) p f = f p
+where_ok (Err e) p f = p
+
+pub returns-clause-flat : goal.returns-clause-flat
+returns-clause-flat g c = where_ok c.write_run.result c.write_run.ensures.whole (run_was_flat c.args.bench.now c.calm-calm.ensures.keeps c.args.steps c.write_run.new.bench)

@@ -4,6 +4,7 @@ use Rattle.r4k_top.specs.Command.{Run}
 use Rattle.r4k_top.specs.CommandShown.{plan_shown}
 use Rattle.r4k_top.specs.Outcome.{run_job}
 use Rattle.r4k_top.proofs.Reading.{all_accepted, made_of, setup_told, disk_alone, handed_on, out_of_memory, if_ok, if_err}
+use Rattle.r4k_top.proofs.FlatEnds.{setup_flat}
 use Rattle.r4k_top.proofs.job.make_report.Goals as goal
 
 pub returns-in_err-out-clause-stopped : goal.returns-in_err-out-clause-stopped
@@ -29,3 +30,9 @@ returns-clause-stopped g c =
     if_err _ _ c.run_setup.result
     (λ status is. out_of_memory _ _ _ _ _ _ c.in_ok-setup.ensures.asked is)
     c.run_setup.ensures.stopped
+
+pub returns-clause-flat : goal.returns-clause-flat
+returns-clause-flat g c =
+    if_ok _ _ c.run_setup.result
+    (λ product told will. setup_flat _ (plan_shown c.args.plan.now) _ _ _ c.in_ok-setup.ensures.setup (told will))
+    c.run_setup.ensures.flat

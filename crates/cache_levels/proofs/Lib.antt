@@ -1,0 +1,9 @@
+pub mod Places
+pub mod Moves
+pub mod Ready
+pub mod Shapes
+pub mod Rules
+pub mod Accesses
+pub mod Events
+pub mod Operating
+pub mod Operations

@@ -1,0 +1,4 @@
+pub mod Runs
+pub mod Words
+pub mod PausedRuns
+pub mod Handled

@@ -1,0 +1,6 @@
+pub mod FlatMemory
+pub mod FlatMachine
+pub mod Pause
+pub mod Reads
+pub mod FlatRun
+pub mod Ranges
