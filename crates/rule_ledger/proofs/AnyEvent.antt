@@ -20,7 +20,8 @@ use Rattle.rule_ledger.specs.Events.{where_in_ram, access_row, beat_granules, in
 use Rattle.rule_ledger.specs.Operations.{operation_of}
 use Rattle.rule_ledger.specs.Rules.{Row, harmless, next, after}
 use Rattle.rule_ledger.proofs.Kept.{KeepsRules, keeps_rules}
-use Rattle.rule_ledger.proofs.Consistent.{IsConsistent, after_load, after_store, after_fetch, after_write_past, after_invalidate_i, after_fill_i, after_writeback_invalidate_d, after_hit_invalidate_d, after_hit_writeback_d}
+use Rattle.rule_ledger.specs.Consistent.{IsConsistent}
+use Rattle.rule_ledger.proofs.Consistent.{after_load, after_store, after_fetch, after_write_past, after_invalidate_i, after_fill_i, after_writeback_invalidate_d, after_hit_invalidate_d, after_hit_writeback_d}
 
 -- the row leaves consistent facts where it breaks no rule
 abbrev KeepsFacts : Grid → Facts → Row → Type 0
@@ -47,9 +48,9 @@ module _ (shape : Numbers) (is : IsShape shape) (k : Facts) (facts : IsConsisten
   ]
 
   access : (kind : EventKind) (cached : Bool) (g c beat : ℕ) → g < (grid_of shape).whole → c < colours shape → KeepsFacts (grid_of shape) k (access_row kind cached g c beat)
-  access Load true g c beat gl cl = λ kept. after_load (grid_of shape) k facts g c
+  access Load true g c beat gl cl = after_load (grid_of shape) k facts g c
   access Store true g c beat gl cl = after_store (grid_of shape) k facts g c gl cl
-  access Fetch true g c beat gl cl = λ kept. after_fetch (grid_of shape) k facts g c
+  access Fetch true g c beat gl cl = after_fetch (grid_of shape) k facts g c
   access Load false g c beat gl cl = λ kept. facts
   access Store false g c beat gl cl = after_write_past (grid_of shape) k facts (granules g 1)
   access Fetch false g c beat gl cl = λ kept. facts
@@ -65,7 +66,7 @@ module _ (shape : Numbers) (is : IsShape shape) (k : Facts) (facts : IsConsisten
   on : (operation : HitOperation) (g c : ℕ) → KeepsFacts (grid_of shape) k (hit_row operation g c)
   on HitInvalidateI g c = λ kept. after_invalidate_i (grid_of shape) k facts (cell g c)
   on HitInvalidateD g c = after_hit_invalidate_d (grid_of shape) k facts (cell g c)
-  on FillI g c = λ kept. after_fill_i (grid_of shape) k facts g c
+  on FillI g c = after_fill_i (grid_of shape) k facts g c
   on HitWritebackInvalidateD g c = λ kept. after_writeback_invalidate_d (grid_of shape) k facts (cell g c)
   on HitWritebackD g c = λ kept. after_hit_writeback_d (grid_of shape) k facts (cell g c)
 

@@ -9,3 +9,5 @@ pub mod Indexes
 pub mod Kept
 pub mod Consistent
 pub mod AnyEvent
+pub mod Settled
+pub mod Stepping

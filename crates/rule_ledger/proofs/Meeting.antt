@@ -96,3 +96,9 @@ meets_one_of grid fact first count g low high = meets_more grid (granules g 1) (
 
 pub same_granule : (g granule : ℕ) → granule ≤ g → g < granule + 1 → g ≡ granule
 same_granule g granule low high = omega arith
+
+pub own_granule : (g c : ℕ) → granules g 1 g c ≡ true
+own_granule g c = and_from (leb g g) (ltb g (g + 1)) (le-leb g g (omega arith)) (lt-ltb g (g + 1) (omega arith))
+
+pub granule_of : (g h c : ℕ) → granules g 1 h c ≡ true → h ≡ g
+granule_of g h c e = let p = and_parts (leb g h) (ltb h (g + 1)) e in same_granule h g (leb-true g h p.0) (ltb-true h (g + 1) p.1)

@@ -7,3 +7,4 @@ pub mod Marks
 pub mod MarkFlags
 pub mod Kept
 pub mod Steps
+pub mod Consistent

@@ -1,76 +1,36 @@
-//! The ledger: what may be so of the copies that the primary caches hold.
+//! The ledger: what may be so of the copies that the primary caches hold, and a step of it.
 
-ghost use Rattle.std.specs.Prelude.{◌≡◌, ◌<◌, ◌≤◌, ◌+◌, ◌*◌, ◌/◌, ◌%◌, false, length, IfOk};
-ghost use Rattle.r4_shape.specs.Address.{colour, granule, index};
-ghost use Rattle.r4_shape.specs.Numbers.{colours, places};
-ghost use Rattle.rule_ledger.specs.Cells.{grid_of, meets};
-ghost use Rattle.rule_ledger.specs.Events.{beat_granules};
-ghost use Rattle.rule_ledger.specs.Facts.{at_index, granules, no_facts, other_colours};
-ghost use Rattle.rule_ledger.specs.MarkFlags.{aged, all_aged, data_at, data_cleared, instruction_at, instructions_aged, instructions_cleared, with_data, with_instruction};
-ghost use Rattle.rule_ledger.specs.Marks.{facts_of, place_of};
+ghost use Rattle.std.specs.Prelude.{◌≡◌, ◌<◌, ◌+◌, ◌%◌, true, false, Some, None, OnSome, IfNone, IfOk};
+ghost use Rattle.access_trace.specs.Grammar.{IsEvent};
+ghost use Rattle.r4_shape.specs.Address.{colour, granule};
+ghost use Rattle.rule_ledger.specs.Events.{breach_of, facts_after, row_of};
+ghost use Rattle.rule_ledger.specs.Facts.{no_facts};
+ghost use Rattle.rule_ledger.specs.Marks.{facts_of};
+ghost use Rattle.rule_ledger.specs.Rules as rule;
+ghost use Rattle.rule_ledger.specs.Steps.{Follows};
 
-use crate::marks::{DataMark, InstructionMark};
-use crate::places::place_at;
-use ledger_table::Marks;
+use crate::tables::Tables;
+use access_trace::{Breach, Event, EventKind};
 use r4_shape::Shape;
 use r4_words::Memory;
 use std::alloc::Global;
 use std::marker::Model;
 
-/// The bytes of RAM and of a page, and the pages of RAM.
-const RAM_SIZE: u32 = 8388608;
-
-const PAGE: u32 = 4096;
-
-const PAGES: u32 = RAM_SIZE / PAGE;
-
 /// The ledger of a machine without a secondary cache.
 #[derive(Drop)]
 pub struct PcLedger {
-    shape: Shape,
-    prim_bits: u32,
-    line_bits: u32,
-    page_bits: u32,
-    colours: u32,
-    lines: usize,
-    data_marks: Marks,
-    instruction_marks: Marks,
-    steps: u64,
+    tables: Tables,
 }
 
 impl Model for PcLedger {
     ghost use Rattle.rule_ledger.specs.Marks.{Ledger};
-    ghost use Rattle.rule_ledger.specs.Kept.{ArePlaced, IsTableOf};
+    ghost use Rattle.rule_ledger.specs.Consistent.{IsLedger};
 
     ghost Value = { Ledger };
 
-    ghost view = { λ p. record {
-      shape = p.shape;
-      data_marks = p.data_marks.marks;
-      instruction_marks = p.instruction_marks.marks;
-      steps = p.steps;
-    } };
+    ghost view = { λ ledger. ledger.tables };
 
-    ghost invariant = { λ p. ArePlaced p.shape p.prim_bits p.line_bits p.page_bits p.colours p.lines
-        × IsTableOf p.shape p.data_marks
-        × IsTableOf p.shape p.instruction_marks };
-}
-
-// The logarithm of the bytes of a line.
-fn line_bits(line: u32) -> u32
-    ensures narrow { line ≡ 16 → result ≡ 4 }
-    ensures wide { line ≡ 32 → result ≡ 5 }
-    ensures most { result ≤ 5 }
-{
-    if line == 16 { 4 } else { 5 }
-}
-
-// The logarithm of the bytes of a primary cache.
-fn prim_bits(prim: u32) -> u32
-    ensures small { prim ≡ 8192 → result ≡ 13 }
-    ensures large { prim ≡ 16384 → result ≡ 14 }
-{
-    if prim == 8192 { 13 } else { 14 }
+    ghost invariant = { λ ledger. IsLedger ledger.tables };
 }
 
 impl PcLedger {
@@ -81,255 +41,93 @@ impl PcLedger {
         ensures facts { IfOk result (λ ledger. facts_of ledger ≡ no_facts) }
         ensures steps { IfOk result (λ ledger. ledger.steps ≡ 0) }
     {
-        let line = shape.line();
-        let prim = shape.prim();
-        let line_bits = line_bits(line);
-        let colours = prim / PAGE;
-        let lines = (prim / line) as usize;
-        let cells = (RAM_SIZE / line * colours) as usize;
-        Ok(PcLedger {
-            shape,
-            prim_bits: prim_bits(prim),
-            line_bits,
-            page_bits: 12 - line_bits,
-            colours,
-            lines,
-            data_marks: Marks::new(alloc, cells, lines)?,
-            instruction_marks: Marks::new(alloc, cells, lines)?,
-            steps: 0,
-        })
+        let tables = Tables::new(alloc, shape)?;
+        Ok(PcLedger { tables })
     }
 
-    // The place of a cell in its table.
+    // Whether the mark of a load's copy tells that the load breaks no rule and changes no fact: a fresh copy is held, so that
+    // the granule is dirty at no other colour.
     #[inline]
-    pub(crate) fn place(&self, granule: u32, colour: u32) -> usize
-        requires granule { granule < (grid_of self.now.shape).whole }
-        requires colour { colour < colours self.now.shape }
-        ensures place { result ≡ place_of (grid_of self.now.shape) granule colour }
-        ensures in_data { result < length self.now.data_marks }
-        ensures in_instructions { result < length self.now.instruction_marks }
-    {
-        place_at(self.page_bits, self.lines, granule, colour)
-    }
-
-    // What the ledger has of a cell of the data cache.
-    #[inline]
-    pub(crate) fn data_mark(&self, granule: u32, colour: u32) -> DataMark
-        requires granule { granule < (grid_of self.now.shape).whole }
-        requires colour { colour < colours self.now.shape }
-        ensures { result ≡ data_at (facts_of self.now) granule colour }
-    {
-        let place = self.place(granule, colour);
-        DataMark::from_bits(self.data_marks.get(place))
-    }
-
-    // Replaces what the ledger has of a cell of the data cache.
-    #[inline]
-    pub(crate) fn put_data_mark(&mut self, granule: u32, colour: u32, mark: DataMark)
-        requires granule { granule < (grid_of self.old.shape).whole }
-        requires colour { colour < colours self.old.shape }
-        ensures facts { facts_of self.new ≡ with_data granule colour mark (facts_of self.old) }
-        ensures kept { self.new ≡ record self.old { data_marks = self.new.data_marks } }
-    {
-        let place = self.place(granule, colour);
-        self.data_marks.set(place, mark.bits());
-    }
-
-    // The same of the instruction cache.
-    #[inline]
-    pub(crate) fn instruction_mark(&self, granule: u32, colour: u32) -> InstructionMark
-        requires granule { granule < (grid_of self.now.shape).whole }
-        requires colour { colour < colours self.now.shape }
-        ensures { result ≡ instruction_at (facts_of self.now) granule colour }
-    {
-        let place = self.place(granule, colour);
-        InstructionMark::from_bits(self.instruction_marks.get(place))
-    }
-
-    #[inline]
-    pub(crate) fn put_instruction_mark(&mut self, granule: u32, colour: u32, mark: InstructionMark)
-        requires granule { granule < (grid_of self.old.shape).whole }
-        requires colour { colour < colours self.old.shape }
-        ensures facts { facts_of self.new ≡ with_instruction granule colour mark (facts_of self.old) }
-        ensures kept { self.new ≡ record self.old { instruction_marks = self.new.instruction_marks } }
-    {
-        let place = self.place(granule, colour);
-        self.instruction_marks.set(place, mark.bits());
-    }
-
-    // Whether the granule may be dirty at another colour.
-    #[inline]
-    pub(crate) fn is_dirty_elsewhere(&self, granule: u32, colour: u32) -> bool
-        requires { granule < (grid_of self.now.shape).whole }
-        ensures { result ≡ meets (grid_of self.now.shape) (other_colours granule colour) (facts_of self.now).dirty }
-    {
-        for other in 0..self.colours {
-            if other != colour && self.data_mark(granule, other).dirty {
-                return true;
-            }
-        }
-        false
-    }
-
-    // Whether the granule may be dirty at a colour.
-    #[inline]
-    pub(crate) fn is_dirty(&self, granule: u32) -> bool
-        requires { granule < (grid_of self.now.shape).whole }
-        ensures { result ≡ meets (grid_of self.now.shape) (granules granule 1) (facts_of self.now).dirty }
-    {
-        for colour in 0..self.colours {
-            if self.data_mark(granule, colour).dirty {
-                return true;
-            }
-        }
-        false
-    }
-
-    // Whether one of so many granules may be dirty.
-    pub(crate) fn is_any_dirty(&self, first: u32, count: u32) -> bool
-        requires { first + count ≤ (grid_of self.now.shape).whole }
-        ensures { result ≡ meets (grid_of self.now.shape) (granules first count) (facts_of self.now).dirty }
-    {
-        for granule in first..first + count {
-            if self.is_dirty(granule) {
-                return true;
-            }
-        }
-        false
-    }
-
-    // Copies of the granule in the data cache become old, where they are held.
-    #[inline]
-    pub(crate) fn age(&mut self, granule: u32)
-        requires { granule < (grid_of self.old.shape).whole }
-        ensures facts { facts_of self.new ≡ aged (granules granule 1) (facts_of self.old) }
-        ensures kept { self.new ≡ record self.old { data_marks = self.new.data_marks } }
-    {
-        for colour in 0..self.colours {
-            let mark = self.data_mark(granule, colour);
-            let old = mark.held | mark.old;
-            self.put_data_mark(granule, colour, DataMark { old, ..mark });
-        }
-    }
-
-    // The same in the instruction cache.
-    #[inline]
-    pub(crate) fn age_instructions(&mut self, granule: u32)
-        requires { granule < (grid_of self.old.shape).whole }
-        ensures facts { facts_of self.new ≡ instructions_aged (granules granule 1) (facts_of self.old) }
-        ensures kept { self.new ≡ record self.old { instruction_marks = self.new.instruction_marks } }
-    {
-        for colour in 0..self.colours {
-            let mark = self.instruction_mark(granule, colour);
-            let old = mark.held | mark.old;
-            self.put_instruction_mark(granule, colour, InstructionMark { old, ..mark });
-        }
-    }
-
-    // There are no copies at an index of the data cache.
-    pub(crate) fn clear_data(&mut self, index: u32)
-        requires { index < places self.old.shape }
-        ensures facts { facts_of self.new ≡ data_cleared (at_index (grid_of self.old.shape).page index) (facts_of self.old) }
-        ensures kept { self.new ≡ record self.old { data_marks = self.new.data_marks } }
-    {
-        self.data_marks.clear_row(index as usize);
-    }
-
-    // The same in the instruction cache.
-    pub(crate) fn clear_instructions(&mut self, index: u32)
-        requires { index < places self.old.shape }
-        ensures facts { facts_of self.new ≡ instructions_cleared (at_index (grid_of self.old.shape).page index) (facts_of self.old) }
-        ensures kept { self.new ≡ record self.old { instruction_marks = self.new.instruction_marks } }
-    {
-        self.instruction_marks.clear_row(index as usize);
-    }
-
-    // The granule of an address in RAM.
-    #[inline]
-    pub(crate) fn granule(&self, pa: u64) -> u32
-        requires { pa < 8388608 }
-        ensures granule { result ≡ granule self.now.shape pa }
-        ensures inside { result < (grid_of self.now.shape).whole }
-    {
-        (pa >> self.line_bits) as u32
-    }
-
-    // How many granules the beat of the disk at an address has.
-    #[inline]
-    pub(crate) fn beat_granules(&self, pa: u64) -> u32
+    fn is_settled_load(&self, pa: u64, va: u32) -> bool
         requires ram { pa < 8388608 }
-        requires whole { pa % 32 ≡ 0 }
-        ensures count { result ≡ beat_granules self.now.shape }
-        ensures inside { granule self.now.shape pa + result ≤ (grid_of self.now.shape).whole }
+        requires page { pa % 4096 ≡ va % 4096 }
+        ensures { let shape = self.now.shape in
+            result ≡ true → Follows (rule.cached_load (granule shape pa) (colour shape va)) self.now self.now None }
     {
-        32 >> self.line_bits
+        let mark = self.tables.accessed_data(pa, va);
+        mark.held && !mark.old
     }
 
-    // The place of a virtual address in a primary cache.
+    // The same of a store: its own copy is dirty, so that every other one is old.
     #[inline]
-    pub(crate) fn in_cache(&self, va: u32) -> u32
-        ensures place { result ≡ va % self.now.shape.prim }
-        ensures inside { result < colours self.now.shape * 4096 }
+    fn is_settled_store(&self, pa: u64, va: u32) -> bool
+        requires ram { pa < 8388608 }
+        requires page { pa % 4096 ≡ va % 4096 }
+        ensures { let shape = self.now.shape in
+            result ≡ true → Follows (rule.cached_store (granule shape pa) (colour shape va)) self.now self.now None }
     {
-        va & ((1 << self.prim_bits) - 1)
+        self.tables.accessed_data(pa, va).dirty
     }
 
-    // The colour of a virtual address.
+    // The same of a fetch: a fresh copy is held in the instruction cache, so that the granule is dirty nowhere.
     #[inline]
-    pub(crate) fn colour(&self, va: u32) -> u32
-        ensures colour { result ≡ colour self.now.shape va }
-        ensures inside { result < colours self.now.shape }
+    fn is_settled_fetch(&self, pa: u64, va: u32) -> bool
+        requires ram { pa < 8388608 }
+        requires page { pa % 4096 ≡ va % 4096 }
+        ensures { let shape = self.now.shape in
+            result ≡ true → Follows (rule.cached_fetch (granule shape pa) (colour shape va)) self.now self.now None }
     {
-        self.in_cache(va) / PAGE
+        let copy = self.tables.accessed_instruction(pa, va);
+        copy.held && !copy.old
     }
 
-    // The index of a virtual address.
-    #[inline]
-    pub(crate) fn index(&self, va: u32) -> u32
-        ensures index { result ≡ index self.now.shape va }
-        ensures inside { result < places self.now.shape }
+    // Whether one mark tells that an event breaks no rule and changes no fact.
+    #[inline(always)]
+    fn is_settled(&self, event: &Event) -> bool
+        requires { IsEvent event.now }
+        ensures { result ≡ true → Follows (row_of self.now.shape event.now) self.now self.now None }
     {
-        self.in_cache(va) >> self.line_bits
-    }
-
-    // Whether a granule may be dirty at an index.
-    pub(crate) fn is_dirty_at(&self, index: u32) -> bool
-        requires { index < places self.now.shape }
-        ensures { let grid = grid_of self.now.shape in
-            result ≡ meets grid (at_index grid.page index) (facts_of self.now).dirty }
-    {
-        let colour = index >> self.page_bits;
-        let within = index - (colour << self.page_bits);
-        for page in 0..PAGES {
-            let at = (page << self.page_bits) + within;
-            if self.data_mark(at, colour).dirty {
-                return true;
-            }
-        }
-        false
-    }
-
-    // Copies of so many granules become old in both caches, where they are held.
-    pub(crate) fn age_all(&mut self, first: u32, count: u32)
-        requires { first + count ≤ (grid_of self.old.shape).whole }
-        ensures facts { facts_of self.new ≡ all_aged (granules first count) (facts_of self.old) }
-        ensures kept { self.new ≡ record self.old {
-          data_marks = self.new.data_marks;
-          instruction_marks = self.new.instruction_marks;
-        } }
-    {
-        for granule in first..first + count {
-            self.age(granule);
-            self.age_instructions(granule);
+        match event.kind {
+            EventKind::Load if event.cached => self.is_settled_load(event.pa, event.va),
+            EventKind::Store if event.cached => self.is_settled_store(event.pa, event.va),
+            EventKind::Fetch if event.cached => self.is_settled_fetch(event.pa, event.va),
+            _ => false,
         }
     }
 
-    // Counts a step without a breach.
-    #[inline]
-    pub(crate) fn count_step(&mut self)
-        requires { self.old.steps < 18446744073709551615 }
-        ensures { self.new ≡ record self.old { steps = self.old.steps + 1 } }
+    // Holds an event against its row of the table of rules, and counts it where it breaks no rule.
+    #[inline(never)]
+    fn hold(&mut self, event: Event) -> Option<Breach>
+        requires grammar { IsEvent event }
+        requires steps { self.old.steps < 18446744073709551615 }
+        ensures breach { result ≡ breach_of self.old.shape (facts_of self.old) event }
+        ensures facts { facts_of self.new ≡ facts_after self.old.shape (facts_of self.old) event result }
+        ensures stays { OnSome result (self.new ≡ self.old) }
+        ensures steps { IfNone result (self.new.steps ≡ self.old.steps + 1) }
+        ensures shape { self.new.shape ≡ self.old.shape }
     {
-        self.steps += 1;
+        let breach = self.tables.hold(&event);
+        if breach.is_none() {
+            self.tables.count_step();
+        }
+        breach
+    }
+
+    /// Holds an event against the rules, and answers the first one that it breaks.
+    #[inline(always)]
+    pub fn step(&mut self, event: &Event) -> Option<Breach>
+        requires grammar { IsEvent event.now }
+        requires steps { self.old.steps < 18446744073709551615 }
+        ensures breach { result ≡ breach_of self.old.shape (facts_of self.old) event.now }
+        ensures facts { facts_of self.new ≡ facts_after self.old.shape (facts_of self.old) event.now result }
+        ensures stays { OnSome result (self.new ≡ self.old) }
+        ensures steps { IfNone result (self.new.steps ≡ self.old.steps + 1) }
+        ensures shape { self.new.shape ≡ self.old.shape }
+    {
+        if self.is_settled(event) {
+            self.tables.count_step();
+            return None;
+        }
+        self.hold(*event)
     }
 }

@@ -6,12 +6,14 @@
 //! - `operations`: the operations of the CACHE instruction, as far as the rules tell them apart.
 //! - `marks`: what a mark of a table says of a cell, which is a granule of RAM at a colour.
 //! - `places`: where a cell stands in a table.
-//! - `ledger`: the ledger, its tests and its changes.
+//! - `tables`: the marks of a ledger, their tests and their changes.
 //! - `rules`: the rows of the table of rules, a method each.
 //! - `steps`: an event is held against its row.
+//! - `ledger`: the ledger, whose facts are those that the rules leave, and a step of it.
 //!
 //! The table stands in specs/Rules.antt and specs/Events.antt: each row says which copies break a rule and which facts change. What
-//! the facts are stands in specs/Facts.antt, and how marks give them in specs/Marks.antt.
+//! the facts are stands in specs/Facts.antt, how marks give them in specs/Marks.antt, and what the facts of each ledger keep in
+//! specs/Consistent.antt.
 #![tactic(auto)]
 
 mod ledger;
@@ -20,5 +22,6 @@ mod operations;
 mod places;
 mod rules;
 mod steps;
+mod tables;
 
 pub use ledger::PcLedger;

@@ -7,13 +7,12 @@ ghost use Rattle.rule_ledger.specs.Facts.{at_index, cell, granules};
 ghost use Rattle.rule_ledger.specs.Rules as rule;
 ghost use Rattle.rule_ledger.specs.Steps.{Follows};
 
-use crate::ledger::PcLedger;
 use crate::marks::{DataMark, InstructionMark};
+use crate::tables::Tables;
 use access_trace::Breach;
 
-impl PcLedger {
+impl Tables {
     // A load through the caches.
-    #[inline(always)]
     pub(crate) fn load(&mut self, granule: u32, colour: u32) -> Option<Breach>
         requires granule { granule < (grid_of self.old.shape).whole }
         requires colour { colour < colours self.old.shape }
@@ -31,7 +30,6 @@ impl PcLedger {
     }
 
     // A store through the caches.
-    #[inline(always)]
     pub(crate) fn store(&mut self, granule: u32, colour: u32) -> Option<Breach>
         requires granule { granule < (grid_of self.old.shape).whole }
         requires colour { colour < colours self.old.shape }
@@ -55,7 +53,6 @@ impl PcLedger {
     }
 
     // A fetch through the caches.
-    #[inline(always)]
     pub(crate) fn fetch(&mut self, granule: u32, colour: u32) -> Option<Breach>
         requires granule { granule < (grid_of self.old.shape).whole }
         requires colour { colour < colours self.old.shape }

@@ -1,4 +1,4 @@
-//! A step of the ledger: an event is held against the rules.
+//! An event is held against its row of the table of rules.
 
 ghost use Rattle.std.specs.Prelude.{◌≡◌, ◌<◌, ◌≤◌, ◌+◌, ◌%◌, OnSome, IfNone};
 ghost use Rattle.access_trace.specs.Grammar.{IsEvent, is_beat};
@@ -12,13 +12,12 @@ ghost use Rattle.rule_ledger.specs.Operations.{operation_of};
 ghost use Rattle.rule_ledger.specs.Rules as rule;
 ghost use Rattle.rule_ledger.specs.Steps.{Follows};
 
-use crate::ledger::PcLedger;
 use crate::operations::{HitOperation, IndexOperation, Operation};
+use crate::tables::Tables;
 use access_trace::{Breach, Event, EventKind};
 
-impl PcLedger {
+impl Tables {
     // An access through the caches, or past them.
-    #[inline(always)]
     fn access(&mut self, event: &Event) -> Option<Breach>
         requires ram { event.now.pa < 8388608 }
         requires grammar { IsEvent event.now }
@@ -109,8 +108,7 @@ impl PcLedger {
     }
 
     // Holds an event against its row of the table of rules.
-    #[inline(always)]
-    fn hold(&mut self, event: &Event) -> Option<Breach>
+    pub(crate) fn hold(&mut self, event: &Event) -> Option<Breach>
         requires { IsEvent event.now }
         ensures { Follows (row_of self.old.shape event.now) self.old self.new result }
     {
@@ -119,23 +117,5 @@ impl PcLedger {
             _ if event.pa < 8388608 => self.access(event),
             _ => None,
         }
-    }
-
-    /// Holds an event against the rules, and answers the first one that it breaks.
-    #[inline(always)]
-    pub fn step(&mut self, event: &Event) -> Option<Breach>
-        requires grammar { IsEvent event.now }
-        requires steps { self.old.steps < 18446744073709551615 }
-        ensures breach { result ≡ breach_of self.old.shape (facts_of self.old) event.now }
-        ensures facts { facts_of self.new ≡ facts_after self.old.shape (facts_of self.old) event.now result }
-        ensures stays { OnSome result (self.new ≡ self.old) }
-        ensures steps { IfNone result (self.new.steps ≡ self.old.steps + 1) }
-        ensures shape { self.new.shape ≡ self.old.shape }
-    {
-        let breach = self.hold(event);
-        if breach.is_none() {
-            self.count_step();
-        }
-        breach
     }
 }

@@ -6,7 +6,7 @@ ghost use Rattle.access_trace.specs.declared.event.Verdict.TheVariants.{Yes};
 ghost use Rattle.trace_check.specs.Verdicts.{event_by, held, standing_at, start, verdict_by};
 
 use crate::found::Found;
-use access_trace::{Event, Verdict};
+use access_trace::{Breach, Event, Verdict};
 use r4_shape::Shape;
 use r4_words::Memory;
 use rule_ledger::PcLedger;
@@ -33,6 +33,18 @@ impl Model for Judge {
     ghost invariant = { λ judge. (judge.ledger.steps ≤ judge.events) × IfSome (event_by judge.first) (λ event. IsEvent event) };
 }
 
+// What is found at an event that breaks a rule. It is made aside, since most events break none.
+#[inline(never)]
+fn found_at(number: u64, breach: Breach, event: Event) -> Found
+    ensures { result ≡ record { number = number; breach = breach; event = event } }
+{
+    Found {
+        number,
+        breach,
+        event,
+    }
+}
+
 impl Judge {
     /// A judge who has seen no event.
     pub fn new(alloc: Global, shape: Shape) -> Result<Judge, Memory>
@@ -48,6 +60,7 @@ impl Judge {
     }
 
     /// The verdict on the events so far.
+    #[inline]
     pub fn verdict(&self) -> Verdict
         ensures { result ≡ verdict_by self.now.first }
     {
@@ -84,11 +97,7 @@ impl Judge {
     {
         if self.first.is_none() {
             if let Some(breach) = self.ledger.step(event) {
-                self.first = Some(Found {
-                    number: self.events,
-                    breach,
-                    event: *event,
-                });
+                self.first = Some(found_at(self.events, breach, *event));
             }
         }
         self.events += 1;

@@ -1,6 +1,0 @@
-use Rattle.std.proofs.Common.{refl}
-use Rattle.rule_ledger.proofs.Grids.{beat_inside}
-use Rattle.rule_ledger.proofs.ledger.PcLedger.beat_granules.Goals as goal
-
-pub returns : goal.returns
-returns c = rw (c.self.invariant.0.line, ← c.self.view_is) (record { count = refl; inside = beat_inside _ _ _ _ _ _ c.self.invariant.0 c.args.pa c.requires.ram c.requires.whole })

@@ -1,5 +1,0 @@
-use Rattle.rule_ledger.proofs.Rows.{follows_harmless}
-use Rattle.rule_ledger.proofs.ledger.PcLedger.operate.Goals as goal
-
-pub returns-in-Nothing : goal.returns-in-Nothing
-returns-in-Nothing c = rw (← c.from_code.ensures, c.in-Nothing.is) (follows_harmless c.args.self.now)

@@ -1,0 +1,18 @@
+use Rattle.std.proofs.Common.{◌∙◌, ap}
+use Rattle.rule_ledger.specs.Cells.{Grid, grid_of}
+use Rattle.rule_ledger.specs.Facts.{Facts, cell}
+use Rattle.rule_ledger.specs.Marks.{Ledger, facts_of}
+use Rattle.rule_ledger.proofs.Rows.{hit_writeback_d_breach, hit_written_d}
+use Rattle.rule_ledger.proofs.tables.Tables.hit_writeback_d.Goals as goal
+
+pub returns : goal.returns
+returns c =
+    let grid : Grid = grid_of c.args.self.now.shape in
+    let facts : Facts = facts_of c.args.self.now in
+    record {
+      breach = hit_writeback_d_breach grid facts (cell c.args.granule c.args.colour);
+      facts = c.put_data_mark.ensures.facts ∙ hit_written_d facts c.args.granule c.args.colour c.data_mark-mark.result c.data_mark-mark.ensures;
+      stays = tt;
+      shape = ap (λ (w : Ledger). w.shape) c.put_data_mark.ensures.kept;
+      steps = ap (λ (w : Ledger). w.steps) c.put_data_mark.ensures.kept;
+    }
