@@ -1,93 +1,121 @@
 -- The digits of a number, several at a time.
-use Rattle.std.proofs.Common.{◌≡◌, ◌<◌, ◌≤◌, ◌+◌, ◌*◌, ◌/◌, ◌%◌, ◌^◌, ℕ, List, [], ◌∷◌, ◌++◌, refl, ap, sym, ◌∙◌, arith, append_assoc, length, length-append}
-use Rattle.std.proofs.Math.Nat.{div-div-eq-div-mul}
+use Rattle.std.proofs.Common.{◌≡◌, ◌<◌, ◌≤◌, ◌+◌, ◌/◌, ◌%◌, ◌^◌, ℕ, zero, suc, List, [], ◌∷◌, ◌++◌, refl, ap, sym, ◌∙◌, arith, append_assoc, append-nil, length, length-append, get_or}
+use Rattle.std.proofs.lemmas.Grind.{common_steps}
+use Rattle.std.proofs.Math.Nat.{div-div-eq-div-mul, pow-suc, mul_comm}
 use Rattle.r4_words.specs.Texts.{hex_of, dec_of, digit_of}
 use Rattle.r4_words.proofs.Written.{dec_of_more, dec_of_small, length_dec_of_below}
 
--- a number without its last digit, and without the digits that go before
-by_16 : (value by next : ℕ) → by * 16 ≡ next → value / by / 16 ≡ value / next
-by_16 value by next is = div-div-eq-div-mul value by 16 ∙ ap (λ n. value / n) is
-
--- the digits of a number in the base 16, so many of them
-pub hex_of_8 : (value : ℕ) → hex_of 8 value ≡
-    digit_of (value / 268435456 % 16) ∷ digit_of (value / 16777216 % 16) ∷ digit_of (value / 1048576 % 16) ∷ digit_of (value / 65536 % 16)
-    ∷ digit_of (value / 4096 % 16) ∷ digit_of (value / 256 % 16) ∷ digit_of (value / 16 % 16) ∷ digit_of (value % 16) ∷ []
+-- so many high digits of a number, and so many low ones behind them
+pub hex_of_split : (high low value : ℕ) → hex_of (high + low) value ≡ hex_of high (value / 16 ^ low) ++ hex_of low value
 unfolding hex_of
+hex_of_split high zero value =
+    let none : high + 0 ≡ high = omega arith in
+    let whole : value ≡ value / 1 = omega arith in
+    ap (λ n. hex_of n value) none ∙ sym (append-nil (hex_of high value)) ∙ ap (λ n. hex_of high n ++ []) whole
+hex_of_split high (suc low) value =
+    let power : value / 16 / 16 ^ low ≡ value / 16 ^ suc low = div-div-eq-div-mul value 16 (16 ^ low) ∙ ap (λ n. value / n) (mul_comm 16 (16 ^ low) ∙ sym (pow-suc 16 low)) in
+    let more : high + suc low ≡ suc (high + low) = omega arith in
+    ap (λ n. hex_of n value) more
+    ∙ ap (λ front. front ++ digit_of (value % 16) ∷ []) (hex_of_split high low (value / 16))
+    ∙ append_assoc (hex_of high (value / 16 / 16 ^ low)) (hex_of low (value / 16)) (digit_of (value % 16) ∷ [])
+    ∙ ap (λ n. hex_of high n ++ (hex_of low (value / 16) ++ digit_of (value % 16) ∷ [])) power
+
+-- the two digits of a byte, and of the low byte of a number
+pub hex_of_byte : (value : ℕ) → value < 256 → hex_of 2 value ≡ digit_of (value / 16) ∷ digit_of (value % 16) ∷ []
+unfolding hex_of
+hex_of_byte value lt = let high : value / 16 % 16 ≡ value / 16 = omega arith in ap (λ n. digit_of n ∷ digit_of (value % 16) ∷ []) high
+
+hex_of_low_byte : (value : ℕ) → hex_of 2 (value % 256) ≡ hex_of 2 value
+unfolding hex_of
+hex_of_low_byte value =
+    let high : value % 256 / 16 % 16 ≡ value / 16 % 16 = omega arith in
+    let low : value % 256 % 16 ≡ value % 16 = omega arith in
+    cc
+
+-- the low eight digits of a number, two at a time
+hex_of_8 : (value : ℕ) → hex_of 8 value ≡
+    ((hex_of 2 (value / 16777216 % 256) ++ hex_of 2 (value / 65536 % 256)) ++ hex_of 2 (value / 256 % 256)) ++ hex_of 2 (value % 256)
 hex_of_8 value =
-    let d2 : value / 16 / 16 ≡ value / 256 = by_16 value 16 256 refl in
-    let d3 : value / 256 / 16 ≡ value / 4096 = by_16 value 256 4096 refl in
-    let d4 : value / 4096 / 16 ≡ value / 65536 = by_16 value 4096 65536 refl in
-    let d5 : value / 65536 / 16 ≡ value / 1048576 = by_16 value 65536 1048576 refl in
-    let d6 : value / 1048576 / 16 ≡ value / 16777216 = by_16 value 1048576 16777216 refl in
-    let d7 : value / 16777216 / 16 ≡ value / 268435456 = by_16 value 16777216 268435456 refl in
-    simp (d2, d3, d4, d5, d6, d7)
+    let s1 : hex_of 8 value ≡ hex_of 6 (value / 256) ++ hex_of 2 value = hex_of_split 6 2 value in
+    let s2 : hex_of 6 (value / 256) ≡ hex_of 4 (value / 256 / 256) ++ hex_of 2 (value / 256) = hex_of_split 4 2 (value / 256) in
+    let s3 : hex_of 4 (value / 65536) ≡ hex_of 2 (value / 65536 / 256) ++ hex_of 2 (value / 65536) = hex_of_split 2 2 (value / 65536) in
+    let d2 : value / 256 / 256 ≡ value / 65536 = div-div-eq-div-mul value 256 256 in
+    let d3 : value / 65536 / 256 ≡ value / 16777216 = div-div-eq-div-mul value 65536 256 in
+    rw (hex_of_low_byte (value / 16777216), hex_of_low_byte (value / 65536), hex_of_low_byte (value / 256), hex_of_low_byte value, s1, s2, d2, s3, d3) refl
 
-pub hex_of_9 : (value : ℕ) → hex_of 9 value ≡
-    digit_of (value / 4294967296 % 16) ∷ digit_of (value / 268435456 % 16) ∷ digit_of (value / 16777216 % 16) ∷ digit_of (value / 1048576 % 16)
-    ∷ digit_of (value / 65536 % 16) ∷ digit_of (value / 4096 % 16) ∷ digit_of (value / 256 % 16) ∷ digit_of (value / 16 % 16)
-    ∷ digit_of (value % 16) ∷ []
+-- a text with these behind it, written in four parts
+pub word_in_pairs : (value : ℕ) (before one two three now : List ℕ) → one ≡ before ++ hex_of 2 (value / 16777216 % 256) →
+    two ≡ one ++ hex_of 2 (value / 65536 % 256) → three ≡ two ++ hex_of 2 (value / 256 % 256) → now ≡ three ++ hex_of 2 (value % 256) →
+    now ≡ before ++ hex_of 8 value
+word_in_pairs value before one two three now is1 is2 is3 is = rw (is, is3, is2, is1, hex_of_8 value) (simp append_assoc)
+
+-- the high one of nine digits, and the others
+pub digit_and_word : (value : ℕ) (pair before front now : List ℕ) (d : ℕ) → pair ≡ hex_of 2 (value / 4294967296 % 256) →
+    front ≡ before ++ get_or pair 1 d ∷ [] → now ≡ front ++ hex_of 8 value → now ≡ before ++ hex_of 9 value
 unfolding hex_of
-hex_of_9 value =
-    let d2 : value / 16 / 16 ≡ value / 256 = by_16 value 16 256 refl in
-    let d3 : value / 256 / 16 ≡ value / 4096 = by_16 value 256 4096 refl in
-    let d4 : value / 4096 / 16 ≡ value / 65536 = by_16 value 4096 65536 refl in
-    let d5 : value / 65536 / 16 ≡ value / 1048576 = by_16 value 65536 1048576 refl in
-    let d6 : value / 1048576 / 16 ≡ value / 16777216 = by_16 value 1048576 16777216 refl in
-    let d7 : value / 16777216 / 16 ≡ value / 268435456 = by_16 value 16777216 268435456 refl in
-    let d8 : value / 268435456 / 16 ≡ value / 4294967296 = by_16 value 268435456 4294967296 refl in
-    simp (d2, d3, d4, d5, d6, d7, d8)
+digit_and_word value pair before front now d two first last =
+    let low : value / 4294967296 % 256 % 16 ≡ value / 4294967296 % 16 = omega arith in
+    let code : get_or pair 1 d ≡ digit_of (value / 4294967296 % 16) = ap (λ codes. get_or codes 1 d) two ∙ ap digit_of low in
+    let split : hex_of 9 value ≡ digit_of (value / 4294967296 % 16) ∷ hex_of 8 value = hex_of_split 1 8 value in
+    rw (last, first, code, split) (append_assoc before (digit_of (value / 4294967296 % 16) ∷ []) (hex_of 8 value))
 
-pub hex_of_16 : (value : ℕ) → hex_of 16 value ≡
-    digit_of (value / 1152921504606846976 % 16) ∷ digit_of (value / 72057594037927936 % 16) ∷ digit_of (value / 4503599627370496 % 16) ∷ digit_of (value / 281474976710656 % 16)
-    ∷ digit_of (value / 17592186044416 % 16) ∷ digit_of (value / 1099511627776 % 16) ∷ digit_of (value / 68719476736 % 16) ∷ digit_of (value / 4294967296 % 16)
-    ∷ digit_of (value / 268435456 % 16) ∷ digit_of (value / 16777216 % 16) ∷ digit_of (value / 1048576 % 16) ∷ digit_of (value / 65536 % 16)
-    ∷ digit_of (value / 4096 % 16) ∷ digit_of (value / 256 % 16) ∷ digit_of (value / 16 % 16) ∷ digit_of (value % 16) ∷ []
+-- eight digits, and eight more
+pub two_words : (value : ℕ) (before front now : List ℕ) → front ≡ before ++ hex_of 8 (value / 4294967296) → now ≡ front ++ hex_of 8 value → now ≡ before ++ hex_of 16 value
+two_words value before front now first last =
+    let split : hex_of 16 value ≡ hex_of 8 (value / 4294967296) ++ hex_of 8 value = hex_of_split 8 8 value in
+    rw (last, first, split) (append_assoc before (hex_of 8 (value / 4294967296)) (hex_of 8 value))
+
+-- eight zeros
+pub hex_of_zero : hex_of 8 0 ≡ 48 ∷ 48 ∷ 48 ∷ 48 ∷ 48 ∷ 48 ∷ 48 ∷ 48 ∷ []
 unfolding hex_of
-hex_of_16 value =
-    let d2 : value / 16 / 16 ≡ value / 256 = by_16 value 16 256 refl in
-    let d3 : value / 256 / 16 ≡ value / 4096 = by_16 value 256 4096 refl in
-    let d4 : value / 4096 / 16 ≡ value / 65536 = by_16 value 4096 65536 refl in
-    let d5 : value / 65536 / 16 ≡ value / 1048576 = by_16 value 65536 1048576 refl in
-    let d6 : value / 1048576 / 16 ≡ value / 16777216 = by_16 value 1048576 16777216 refl in
-    let d7 : value / 16777216 / 16 ≡ value / 268435456 = by_16 value 16777216 268435456 refl in
-    let d8 : value / 268435456 / 16 ≡ value / 4294967296 = by_16 value 268435456 4294967296 refl in
-    let d9 : value / 4294967296 / 16 ≡ value / 68719476736 = by_16 value 4294967296 68719476736 refl in
-    let d10 : value / 68719476736 / 16 ≡ value / 1099511627776 = by_16 value 68719476736 1099511627776 refl in
-    let d11 : value / 1099511627776 / 16 ≡ value / 17592186044416 = by_16 value 1099511627776 17592186044416 refl in
-    let d12 : value / 17592186044416 / 16 ≡ value / 281474976710656 = by_16 value 17592186044416 281474976710656 refl in
-    let d13 : value / 281474976710656 / 16 ≡ value / 4503599627370496 = by_16 value 281474976710656 4503599627370496 refl in
-    let d14 : value / 4503599627370496 / 16 ≡ value / 72057594037927936 = by_16 value 4503599627370496 72057594037927936 refl in
-    let d15 : value / 72057594037927936 / 16 ≡ value / 1152921504606846976 = by_16 value 72057594037927936 1152921504606846976 refl in
-    simp (d2, d3, d4, d5, d6, d7, d8, d9, d10, d11, d12, d13, d14, d15)
+hex_of_zero = refl
 
--- the digits of a number that has at least five, the last four of them apart
-pub dec_of_four_more : (value : ℕ) → 10000 ≤ value → dec_of value ≡
-    dec_of (value / 10000) ++ (digit_of (value / 1000 % 10) ∷ digit_of (value / 100 % 10) ∷ digit_of (value / 10 % 10) ∷ digit_of (value % 10) ∷ [])
-dec_of_four_more value le =
+-- the digits of a number that has two of them, at least three, and at least five
+pub dec_of_two : (value : ℕ) → 10 ≤ value → value < 100 → dec_of value ≡ digit_of (value / 10) ∷ digit_of (value % 10) ∷ []
+dec_of_two value le lt =
+    let high : value / 10 % 10 ≡ value / 10 = omega arith in
+    dec_of_more value le ∙ ap (λ front. front ++ digit_of (value % 10) ∷ []) (dec_of_small (value / 10) (omega arith) ∙ ap (λ n. digit_of n ∷ []) high)
+
+pub dec_of_two_more : (value : ℕ) → 100 ≤ value → dec_of value ≡ dec_of (value / 100) ++ (digit_of (value % 100 / 10) ∷ digit_of (value % 100 % 10) ∷ [])
+dec_of_two_more value le =
     let e1 : dec_of value ≡ dec_of (value / 10) ++ digit_of (value % 10) ∷ [] = dec_of_more value (omega arith) in
-    let q2 : value / 10 / 10 ≡ value / 100 = div-div-eq-div-mul value 10 10 in
-    let q3 : value / 100 / 10 ≡ value / 1000 = div-div-eq-div-mul value 100 10 in
-    let q4 : value / 1000 / 10 ≡ value / 10000 = div-div-eq-div-mul value 1000 10 in
-    let e2 : dec_of (value / 10) ≡ dec_of (value / 100) ++ digit_of (value / 10 % 10) ∷ [] =
-    dec_of_more (value / 10) (omega arith) ∙ ap (λ q. dec_of q ++ digit_of (value / 10 % 10) ∷ []) q2 in
-    let e3 : dec_of (value / 100) ≡ dec_of (value / 1000) ++ digit_of (value / 100 % 10) ∷ [] =
-    dec_of_more (value / 100) (omega arith) ∙ ap (λ q. dec_of q ++ digit_of (value / 100 % 10) ∷ []) q3 in
-    let e4 : dec_of (value / 1000) ≡ dec_of (value / 10000) ++ digit_of (value / 1000 % 10) ∷ [] =
-    dec_of_more (value / 1000) (omega arith) ∙ ap (λ q. dec_of q ++ digit_of (value / 1000 % 10) ∷ []) q4 in
-    rw (e1, e2, e3, e4) (simp append_assoc)
+    let e2 : dec_of (value / 10) ≡ dec_of (value / 10 / 10) ++ digit_of (value / 10 % 10) ∷ [] = dec_of_more (value / 10) (omega arith) in
+    let q : value / 10 / 10 ≡ value / 100 = div-div-eq-div-mul value 10 10 in
+    let high : value / 10 % 10 ≡ value % 100 / 10 = omega arith in
+    let low : value % 10 ≡ value % 100 % 10 = omega arith in
+    rw (e1, e2, q, high, low) (append_assoc (dec_of (value / 100)) (digit_of (value % 100 / 10) ∷ []) (digit_of (value % 100 % 10) ∷ []))
 
--- a text with the digits of a number behind it, written in two parts
-pub dec_in_two : (value : ℕ) (before middle now : List ℕ) → 10000 ≤ value → middle ≡ before ++ dec_of (value / 10000) →
-    now ≡ middle ++ (digit_of (value / 1000 % 10) ∷ digit_of (value / 100 % 10) ∷ digit_of (value / 10 % 10) ∷ digit_of (value % 10) ∷ []) →
-    now ≡ before ++ dec_of value
-dec_in_two value before middle now le first last =
-    let digits : List ℕ = digit_of (value / 1000 % 10) ∷ digit_of (value / 100 % 10) ∷ digit_of (value / 10 % 10) ∷ digit_of (value % 10) ∷ [] in
-    last ∙ ap (λ text. text ++ digits) first ∙ append_assoc before (dec_of (value / 10000)) digits ∙ ap (λ text. before ++ text) (sym (dec_of_four_more value le))
+-- the four digits of a number below 10000, with zeros before a smaller one
+abbrev pub four_of : ℕ → List ℕ
+four_of value = digit_of (value / 100 / 10) ∷ digit_of (value / 100 % 10) ∷ digit_of (value % 100 / 10) ∷ digit_of (value % 100 % 10) ∷ []
 
--- how many digits numbers of 32 and of 8 bits have
-pub length_dec_of_word : (value : ℕ) → value < 2 ^ 32 → length (dec_of value) ≤ 10
-length_dec_of_word value lt = length_dec_of_below 10 value (omega arith) (omega arith)
+pub dec_of_four_more : (value : ℕ) → 10000 ≤ value → dec_of value ≡ dec_of (value / 10000) ++ four_of (value % 10000)
+dec_of_four_more value le =
+    let e1 = dec_of_two_more value (omega arith) in
+    let e2 = dec_of_two_more (value / 100) (omega arith) in
+    let q : value / 100 / 100 ≡ value / 10000 = div-div-eq-div-mul value 100 100 in
+    let high : value / 100 % 100 ≡ value % 10000 / 100 = omega arith in
+    let low : value % 100 ≡ value % 10000 % 100 = omega arith in
+    rw (e1, e2, q, high, low) (append_assoc (dec_of (value / 10000)) (digit_of (value % 10000 / 100 / 10) ∷ digit_of (value % 10000 / 100 % 10) ∷ []) (digit_of (value % 10000 % 100 / 10) ∷ digit_of (value % 10000 % 100 % 10) ∷ []))
 
+-- a text with such digits behind it
+pub digit_behind : (value : ℕ) (before now : List ℕ) → value < 10 → now ≡ before ++ (48 + value) ∷ [] → now ≡ before ++ dec_of value
+digit_behind value before now lt is =
+    let same : value % 10 ≡ value = omega arith in
+    let code : digit_of value ≡ 48 + value = grind (arith, common_steps) in
+    is ∙ ap (λ text. before ++ text) (sym (dec_of_small value lt ∙ ap (λ n. digit_of n ∷ []) same ∙ ap (λ n. n ∷ []) code))
+
+pub two_behind : (value : ℕ) (before now : List ℕ) → 10 ≤ value → value < 100 → now ≡ before ++ (digit_of (value / 10) ∷ digit_of (value % 10) ∷ []) → now ≡ before ++ dec_of value
+two_behind value before now le lt is = is ∙ ap (λ text. before ++ text) (sym (dec_of_two value le lt))
+
+pub two_more_behind : (value : ℕ) (before front now : List ℕ) → 100 ≤ value → front ≡ before ++ dec_of (value / 100) →
+    now ≡ front ++ (digit_of (value % 100 / 10) ∷ digit_of (value % 100 % 10) ∷ []) → now ≡ before ++ dec_of value
+two_more_behind value before front now le first last = rw (last, first, dec_of_two_more value le) (append_assoc before (dec_of (value / 100)) (digit_of (value % 100 / 10) ∷ digit_of (value % 100 % 10) ∷ []))
+
+pub four_more_behind : (value : ℕ) (before front now : List ℕ) → 10000 ≤ value → front ≡ before ++ dec_of (value / 10000) → now ≡ front ++ four_of (value % 10000) → now ≡ before ++ dec_of value
+four_more_behind value before front now le first last = rw (last, first, dec_of_four_more value le) (append_assoc before (dec_of (value / 10000)) (four_of (value % 10000)))
+
+-- how many digits a number of 8 bits has
 pub length_dec_of_byte : (value : ℕ) → value < 2 ^ 8 → length (dec_of value) ≤ 3
 length_dec_of_byte value lt = length_dec_of_below 3 value (omega arith) (omega arith)
 
@@ -99,7 +127,3 @@ after_none (code ∷ before) now text none is = absurd (omega arith)
 -- how long a text is with another behind it
 pub length_behind : (before now text : List ℕ) (most : ℕ) → now ≡ before ++ text → length text ≤ most → length now ≤ length before + most
 length_behind before now text most is few = let all : length now ≡ length before + length text = ap length is ∙ length-append before text in omega arith
-
--- the text of one digit
-pub dec_of_digit : (value : ℕ) → value < 10 → dec_of value ≡ digit_of value ∷ []
-dec_of_digit value lt = let same : value % 10 ≡ value = omega arith in dec_of_small value lt ∙ ap (λ digit. digit_of digit ∷ []) same

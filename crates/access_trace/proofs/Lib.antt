@@ -6,3 +6,4 @@ pub mod Collected
 pub mod WrittenTrace
 pub mod Facts
 pub mod Digits
+pub mod PairTables

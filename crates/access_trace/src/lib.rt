@@ -2,7 +2,8 @@
 //!
 //! - `event`: an event, the breach of a rule of cache discipline, and the verdict on a list of events.
 //! - `grammar`: the test for the events that a trace may hold.
-//! - `marks`, `printing`: an event as a line of text, written into a line of bounded room.
+//! - `marks`, `pairs`, `printing`: an event as a line of text, written into a line of bounded room; its digits come two at a time,
+//!   from two tables.
 //! - `splitting`, `fields`, `reading`: the event of a line. Writing and reading are each other's inverse: a line is read as
 //!   an event exactly where it is what is written of that event.
 //! - `lines`, `traces`: the events of a whole trace, as a list or one after another, or its first bad line.
@@ -18,6 +19,7 @@ mod fields;
 mod grammar;
 mod lines;
 mod marks;
+mod pairs;
 mod printing;
 mod reading;
 mod splitting;

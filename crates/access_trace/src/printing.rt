@@ -1,6 +1,6 @@
 //! An event as a line of text.
 
-ghost use Rattle.std.specs.Prelude.{◌≡◌, ◌≤◌, ◌<◌, ◌+◌, [], ◌∷◌, ◌++◌, length};
+ghost use Rattle.std.specs.Prelude.{◌≡◌, ◌≤◌, ◌<◌, ◌+◌, ◌/◌, ◌%◌, [], ◌∷◌, ◌++◌};
 ghost use Rattle.arrayvec.specs.ArrayVec.{array_vec_len};
 ghost use Rattle.access_trace.specs.Grammar.{IsEvent};
 ghost use Rattle.access_trace.specs.Texts as texts;
@@ -9,143 +9,146 @@ ghost use Rattle.r4_words.specs.Texts.{dec_of, digit_of, hex_of};
 
 use crate::event::Event;
 use crate::marks::{attribute, letter, quiet};
-use r4_words::{Line, put_dec, put_text};
+use crate::pairs::{dec_pair, hex_pair};
+use r4_words::{Line, put_text};
 
-// The code of a digit.
+// Appends the low eight hexadecimal digits of a number.
 #[inline(always)]
-fn digit(value: u64) -> u8
-    requires { value < 16 }
-    ensures { result ≡ digit_of value }
-{
-    match value {
-        0 => b'0',
-        1 => b'1',
-        2 => b'2',
-        3 => b'3',
-        4 => b'4',
-        5 => b'5',
-        6 => b'6',
-        7 => b'7',
-        8 => b'8',
-        9 => b'9',
-        10 => b'a',
-        11 => b'b',
-        12 => b'c',
-        13 => b'd',
-        14 => b'e',
-        15 => b'f',
-        _ => unreachable!(),
-    }
-}
-
-// Appends the eight hexadecimal digits of a word.
-#[inline(always)]
-#[tactic(auto, using(crate::proofs::Digits::hex_of_8))]
-fn put_word(value: u32, line: &mut Line)
+#[tactic(auto, using(crate::proofs::Digits::word_in_pairs))]
+fn put_word(value: u64, line: &mut Line)
     requires { array_vec_len line.old + 8 ≤ 128 }
     ensures items { line.new.items ≡ line.old.items ++ hex_of 8 value }
     ensures len { array_vec_len line.new ≡ array_vec_len line.old + 8 }
 {
-    let value = u64::from(value);
-    let digits = [
-        digit(value / 0x1000_0000 % 16),
-        digit(value / 0x100_0000 % 16),
-        digit(value / 0x10_0000 % 16),
-        digit(value / 0x1_0000 % 16),
-        digit(value / 0x1000 % 16),
-        digit(value / 0x100 % 16),
-        digit(value / 0x10 % 16),
-        digit(value % 16),
-    ];
-    put_text(&digits, line);
-}
-
-// Appends the decimal digits of a number, the last four of a long one at once.
-#[inline(always)]
-#[tactic(auto, using(crate::proofs::Digits::dec_in_two, crate::proofs::Digits::length_dec_of_word))]
-fn put_number(value: u32, line: &mut Line)
-    requires { array_vec_len line.old + 24 ≤ 128 }
-    ensures items { line.new.items ≡ line.old.items ++ dec_of value }
-    ensures len { array_vec_len line.new ≤ array_vec_len line.old + 10 }
-{
-    if value < 10000 {
-        return put_dec(u64::from(value), line);
-    }
-    let value = u64::from(value);
-    put_dec(value / 10000, line);
-    let digits = [
-        digit(value / 1000 % 10),
-        digit(value / 100 % 10),
-        digit(value / 10 % 10),
-        digit(value % 10),
-    ];
-    put_text(&digits, line);
-}
-
-// Appends the decimal digits of a size.
-#[inline(always)]
-#[tactic(auto, using(crate::proofs::Digits::length_dec_of_byte))]
-fn put_size(value: u8, line: &mut Line)
-    requires { array_vec_len line.old + 20 ≤ 128 }
-    ensures items { line.new.items ≡ line.old.items ++ dec_of value }
-    ensures len { array_vec_len line.new ≤ array_vec_len line.old + 3 }
-{
-    if value < 10 {
-        line.push(digit(u64::from(value)));
-        return;
-    }
-    put_dec(u64::from(value), line);
+    put_text(&hex_pair(value / 0x100_0000 % 256), line);
+    put_text(&hex_pair(value / 0x1_0000 % 256), line);
+    put_text(&hex_pair(value / 0x100 % 256), line);
+    put_text(&hex_pair(value % 256), line);
 }
 
 // Appends the nine hexadecimal digits of a physical address.
 #[inline(always)]
-#[tactic(auto, using(crate::proofs::Digits::hex_of_9))]
 fn put_address(value: u64, line: &mut Line)
     requires { array_vec_len line.old + 9 ≤ 128 }
     ensures items { line.new.items ≡ line.old.items ++ hex_of 9 value }
     ensures len { array_vec_len line.new ≡ array_vec_len line.old + 9 }
 {
-    let digits = [
-        digit(value / 0x1_0000_0000 % 16),
-        digit(value / 0x1000_0000 % 16),
-        digit(value / 0x100_0000 % 16),
-        digit(value / 0x10_0000 % 16),
-        digit(value / 0x1_0000 % 16),
-        digit(value / 0x1000 % 16),
-        digit(value / 0x100 % 16),
-        digit(value / 0x10 % 16),
-        digit(value % 16),
-    ];
-    put_text(&digits, line);
+    let [_, high] = hex_pair(value / 0x1_0000_0000 % 256);
+    line.push(high);
+    put_word(value, line);
 }
 
-// Appends the sixteen hexadecimal digits of a doubleword.
+// Appends the sixteen hexadecimal digits of a doubleword, of which the first eight are often zeros.
 #[inline(always)]
-#[tactic(auto, using(crate::proofs::Digits::hex_of_16))]
+#[tactic(auto, using(crate::proofs::Digits::two_words))]
 fn put_doubleword(value: u64, line: &mut Line)
     requires { array_vec_len line.old + 16 ≤ 128 }
     ensures items { line.new.items ≡ line.old.items ++ hex_of 16 value }
     ensures len { array_vec_len line.new ≡ array_vec_len line.old + 16 }
 {
-    let digits = [
-        digit(value / 0x1000_0000_0000_0000 % 16),
-        digit(value / 0x100_0000_0000_0000 % 16),
-        digit(value / 0x10_0000_0000_0000 % 16),
-        digit(value / 0x1_0000_0000_0000 % 16),
-        digit(value / 0x1000_0000_0000 % 16),
-        digit(value / 0x100_0000_0000 % 16),
-        digit(value / 0x10_0000_0000 % 16),
-        digit(value / 0x1_0000_0000 % 16),
-        digit(value / 0x1000_0000 % 16),
-        digit(value / 0x100_0000 % 16),
-        digit(value / 0x10_0000 % 16),
-        digit(value / 0x1_0000 % 16),
-        digit(value / 0x1000 % 16),
-        digit(value / 0x100 % 16),
-        digit(value / 0x10 % 16),
-        digit(value % 16),
-    ];
-    put_text(&digits, line);
+    put_high(value / 0x1_0000_0000, line);
+    put_word(value, line);
+}
+
+// Appends the low eight hexadecimal digits of a number, which is often 0.
+#[inline(always)]
+#[tactic(auto, using(crate::proofs::Digits::hex_of_zero))]
+fn put_high(value: u64, line: &mut Line)
+    requires { array_vec_len line.old + 8 ≤ 128 }
+    ensures items { line.new.items ≡ line.old.items ++ hex_of 8 value }
+    ensures len { array_vec_len line.new ≡ array_vec_len line.old + 8 }
+{
+    if value == 0 {
+        return put_text(b"00000000", line);
+    }
+    put_word(value, line);
+}
+
+// Appends the decimal digits of a number below 100.
+#[inline(always)]
+#[tactic(auto, using(crate::proofs::Digits::digit_behind, crate::proofs::Digits::two_behind))]
+fn put_first(value: u64, line: &mut Line)
+    requires small { value < 100 }
+    requires room { array_vec_len line.old + 2 ≤ 128 }
+    ensures items { line.new.items ≡ line.old.items ++ dec_of value }
+    ensures len { array_vec_len line.new ≤ array_vec_len line.old + 2 }
+{
+    if value < 10 {
+        line.push(b'0' + value as u8);
+        return;
+    }
+    put_text(&dec_pair(value), line);
+}
+
+// Appends the decimal digits of a number below 10000.
+#[inline(always)]
+#[tactic(auto, using(crate::proofs::Digits::two_more_behind))]
+fn put_short(value: u64, line: &mut Line)
+    requires small { value < 10000 }
+    requires room { array_vec_len line.old + 4 ≤ 128 }
+    ensures items { line.new.items ≡ line.old.items ++ dec_of value }
+    ensures len { array_vec_len line.new ≤ array_vec_len line.old + 4 }
+{
+    if value < 100 {
+        return put_first(value, line);
+    }
+    put_first(value / 100, line);
+    put_text(&dec_pair(value % 100), line);
+}
+
+// Appends four decimal digits, those of a smaller number with zeros before them.
+#[inline(always)]
+fn put_four(value: u64, line: &mut Line)
+    requires small { value < 10000 }
+    requires room { array_vec_len line.old + 4 ≤ 128 }
+    ensures items { line.new.items ≡ line.old.items ++ (digit_of (value / 100 / 10) ∷ digit_of (value / 100 % 10)
+        ∷ digit_of (value % 100 / 10) ∷ digit_of (value % 100 % 10) ∷ []) }
+    ensures len { array_vec_len line.new ≡ array_vec_len line.old + 4 }
+{
+    put_text(&dec_pair(value / 100), line);
+    put_text(&dec_pair(value % 100), line);
+}
+
+// Appends the decimal digits of a number, four of a long one at once.
+#[inline(always)]
+#[tactic(auto, using(crate::proofs::Digits::four_more_behind))]
+fn put_number(value: u32, line: &mut Line)
+    requires { array_vec_len line.old + 10 ≤ 128 }
+    ensures items { line.new.items ≡ line.old.items ++ dec_of value }
+    ensures len { array_vec_len line.new ≤ array_vec_len line.old + 10 }
+{
+    let value = u64::from(value);
+    if value < 10000 {
+        return put_short(value, line);
+    }
+    put_front(value / 10000, line);
+    put_four(value % 10000, line);
+}
+
+// Appends the decimal digits of a number that has at most six.
+#[inline(always)]
+#[tactic(auto, using(crate::proofs::Digits::four_more_behind))]
+fn put_front(value: u64, line: &mut Line)
+    requires small { value < 1000000 }
+    requires room { array_vec_len line.old + 6 ≤ 128 }
+    ensures items { line.new.items ≡ line.old.items ++ dec_of value }
+    ensures len { array_vec_len line.new ≤ array_vec_len line.old + 6 }
+{
+    if value < 10000 {
+        return put_short(value, line);
+    }
+    put_first(value / 10000, line);
+    put_four(value % 10000, line);
+}
+
+// Appends the decimal digits of a size.
+#[inline(always)]
+fn put_size(value: u8, line: &mut Line)
+    requires { array_vec_len line.old + 4 ≤ 128 }
+    ensures items { line.new.items ≡ line.old.items ++ dec_of value }
+    ensures len { array_vec_len line.new ≤ array_vec_len line.old + 3 }
+{
+    put_short(u64::from(value), line);
 }
 
 // Appends the line of any event.
@@ -155,18 +158,23 @@ fn print_line(event: &Event, out: &mut Line)
     ensures text { out.new.items ≡ out.old.items ++ texts.line_of event.now }
     ensures short { array_vec_len out.new ≤ array_vec_len out.old + 56 }
 {
+    // Said once, so that no part of the line asks for its room again.
+    if out.len() > 70 {
+        unreachable!();
+    }
+    let event = *event;
     put_number(event.tick, out);
     let marks = [
         b' ',
         letter(event.kind),
         b' ',
-        attribute(event),
+        attribute(&event),
         b' ',
-        quiet(event),
+        quiet(&event),
         b' ',
     ];
     put_text(&marks, out);
-    put_word(event.va, out);
+    put_word(u64::from(event.va), out);
     out.push(b' ');
     put_address(event.pa, out);
     out.push(b' ');
@@ -187,6 +195,7 @@ pub fn print_event(event: &Event, out: &mut Line)
 }
 
 /// Appends the line of an event of the grammar, with the newline that ends it.
+#[inline(always)]
 pub fn append_event(event: &Event, out: &mut Line)
     requires event { IsEvent event.now }
     requires room { array_vec_len out.old ≤ 70 }

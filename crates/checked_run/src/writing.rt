@@ -23,13 +23,13 @@ use trace_check::Judge;
 
 // Writes the line of an event, where there is one.
 #[inline(always)]
-fn put_if<K: Sink>(event: &Option<Event>, out: &mut K, pending: &mut Pending)
-    requires { IfSome event.now IsEvent }
+fn put_if<K: Sink>(event: Option<Event>, out: &mut K, pending: &mut Pending)
+    requires { IfSome event IsEvent }
     ensures writes { Writes (stand K.written K.faults out.old pending.old)
-        (stand K.written K.faults out.new pending.new) (events_text (listed event.now)) }
+        (stand K.written K.faults out.new pending.new) (events_text (listed event)) }
 {
     if let Some(event) = event {
-        put_event(event, out, pending);
+        put_event(&event, out, pending);
     }
 }
 
@@ -39,10 +39,10 @@ fn put_tick_events<K: Sink>(tick: u32, span: u32, log: &Log, out: &mut K, pendin
     ensures writes { Writes (stand K.written K.faults out.old pending.old)
         (stand K.written K.faults out.new pending.new) (events_text (events_of tick span log.now)) }
 {
-    put_if(&beat_of_log(tick, log.beat()), out, pending);
+    put_if(beat_of_log(tick, log.beat()), out, pending);
     let shown = shows_fetch(span, log);
-    put_if(&event_of_log(tick, shown, log.fetch()), out, pending);
-    put_if(&event_of_log(tick, span == 0, log.access()), out, pending);
+    put_if(event_of_log(tick, shown, log.fetch()), out, pending);
+    put_if(event_of_log(tick, span == 0, log.access()), out, pending);
 }
 
 // Makes one tick, and writes its events.

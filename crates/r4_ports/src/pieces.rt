@@ -44,7 +44,7 @@ fn hand_over<K: Sink>(out: &mut K, pending: &mut Pending)
     if !pending.failed && !pending.piece.is_empty() {
         pending.failed = out.write(&pending.piece).is_err();
     }
-    pending.piece.clear();
+    pending.piece = Line::new();
 }
 
 // Flushes the sink, unless a write failed before.

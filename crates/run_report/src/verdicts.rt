@@ -12,17 +12,6 @@ use access_trace::{Breach, Event, Verdict, append_event};
 use r4_ports::{Pending, Sink, SinkFault, finish, write_line};
 use r4_words::{Line, put_dec, put_text};
 
-// The line of an event.
-#[tactic(auto, unfolding(crate::specs::Verdict::event_line))]
-fn event_line(event: &Event) -> Line
-    requires { IsEvent event.now }
-    ensures text { result.items ≡ law.event_line event.now }
-{
-    let mut line = Line::new();
-    append_event(event, &mut line);
-    line
-}
-
 // A line of these bytes.
 fn fixed_line(text: &[u8]) -> Line
     requires { length text.now ≤ 128 }
@@ -62,8 +51,21 @@ fn no_line(number: u64, breach: Breach) -> Line
     line
 }
 
+// Writes the line of an event where it may not fit behind what is pending.
+#[inline(never)]
+fn put_across<K: Sink>(event: &Event, out: &mut K, pending: &mut Pending)
+    requires { IsEvent event.now }
+    ensures writes { Writes (stand K.written K.faults out.old pending.old)
+        (stand K.written K.faults out.new pending.new) (law.event_line event.now) }
+{
+    let mut line = Line::new();
+    append_event(event, &mut line);
+    write_line(&line, out, pending);
+}
+
 /// Writes the line of an event of the grammar, unless a write failed before. Where there is room for it behind what is pending, it
 /// is made there.
+#[inline(never)]
 pub fn put_event<K: Sink>(event: &Event, out: &mut K, pending: &mut Pending)
     requires { IsEvent event.now }
     ensures writes { Writes (stand K.written K.faults out.old pending.old)
@@ -73,7 +75,7 @@ pub fn put_event<K: Sink>(event: &Event, out: &mut K, pending: &mut Pending)
         append_event(event, &mut pending.piece);
         return;
     }
-    write_line(&event_line(event), out, pending);
+    put_across(event, out, pending);
 }
 
 /// Writes the lines of events of the grammar, unless a write failed before.
@@ -103,7 +105,7 @@ fn put_no<K: Sink>(number: u64, breach: Breach, first: &Event, out: &mut K, pend
         (law.no_text number breach ++ law.event_line first.now) }
 {
     write_line(&no_line(number, breach), out, pending);
-    write_line(&event_line(first), out, pending);
+    put_event(first, out, pending);
 }
 
 /// Writes a verdict with the first event that breaks a rule, unless a write failed before.
