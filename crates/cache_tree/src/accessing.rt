@@ -20,8 +20,7 @@ fn carry_out(hier: &mut Hier, place: Place, pa: u64, op: MemOp) -> Access
     ensures answer { result ≡ (law.carried place (pa % hier.old.caches.shape.line) op hier.old).answer }
     ensures possible { IsAnswer op result }
 {
-    let line = hier.shape().line();
-    let at = (pa % u64::from(line)) as u32;
+    let at = hier.shape().offset(pa);
     match op {
         MemOp::Read { size } => Access::Value(hier.number(place, at, size)),
         MemOp::Write { size, value } => {

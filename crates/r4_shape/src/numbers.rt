@@ -1,14 +1,16 @@
 //! A shape, and the parts of an address on it.
 
-ghost use Rattle.std.specs.Prelude.{◌≡◌, ◌<◌, ◌≤◌, true};
+ghost use Rattle.std.specs.Prelude.{◌≡◌, ◌<◌, ◌≤◌, ◌/◌, ◌%◌, true};
 ghost use Rattle.r4_shape.specs.Address as address;
 ghost use Rattle.r4_shape.specs.Config.{block_field, config_of, size_field};
 ghost use Rattle.r4_shape.specs.Numbers.{HasPages, IsGroup, IsLine, IsPrim, IsShape, IsSize, colours, places, primary_alone, secondary_places, with_secondary};
 
 use std::marker::Model;
 
-/// The bytes of a page.
+/// The bytes of a page, and of each primary cache.
 const PAGE: u32 = 4096;
+
+const PRIM: u32 = 8192;
 
 /// A shape of the caches: one of those that have a name.
 #[derive(Clone, Copy)]
@@ -133,12 +135,44 @@ impl Shape {
         self.size
     }
 
+    // Where a virtual address lies in a primary cache. Here and below a divisor is a number that is known when the program is
+    // built, so that a mask or a shift stands for the division.
+    #[inline]
+    fn within(&self, va: u32) -> u32
+        ensures is { result ≡ va % self.now.prim }
+        ensures shape { IsShape self.now }
+    {
+        if self.prim == PRIM {
+            va % PRIM
+        } else {
+            va % self.prim
+        }
+    }
+
+    // How many lines of a primary cache end at an address or before it.
+    #[inline]
+    fn lines_before(&self, at: u32) -> u32
+        ensures is { result ≡ at / self.now.line }
+    {
+        if self.line == 16 { at / 16 } else { at / 32 }
+    }
+
     /// The index of a virtual address in the primary caches.
+    #[inline]
     pub fn index(&self, va: u32) -> u32
         ensures is { result ≡ address.index self.now va }
         ensures place { result < places self.now }
     {
-        va % self.prim / self.line
+        self.lines_before(self.within(va))
+    }
+
+    /// The place of an address in its line of a primary cache.
+    #[inline]
+    pub fn offset(&self, pa: u64) -> u32
+        ensures is { result ≡ pa % self.now.line }
+    {
+        let at = if self.line == 16 { pa % 16 } else { pa % 32 };
+        at as u32
     }
 
     /// The colour of a virtual address.
@@ -146,7 +180,7 @@ impl Shape {
         ensures is { result ≡ address.colour self.now va }
         ensures few { result < colours self.now }
     {
-        va % self.prim / PAGE
+        self.within(va) / PAGE
     }
 
     /// The bits of a virtual address that the secondary cache keeps of a line.
@@ -162,7 +196,7 @@ impl Shape {
         requires ram { pa < 8388608 }
         ensures is { result ≡ address.granule self.now pa }
     {
-        (pa / u64::from(self.line)) as u32
+        self.lines_before(pa as u32)
     }
 
     /// The number of the secondary line of an address in RAM.
