@@ -64,11 +64,12 @@ fn tick_judged(machine: &mut TracedMachine, judge: &mut Judge) -> Tick
     answer
 }
 
-// The same, and no list is made of the events.
+// The same in a calm state, and no list is made of the events.
 #[inline(always)]
 fn advance_judged(machine: &mut TracedMachine, judge: &mut Judge) -> Tick
     requires ticks { machine.old.cpu.ticks < 4294967295 }
     requires counted { law.IsCounted (record { machine = machine.old; judge = judge.old }) }
+    requires calm { machine.old.span_left ≡ 0 }
     ensures ticked { law.Ticked (record { machine = machine.old; judge = judge.old })
         (record { machine = machine.new; judge = judge.new }) result }
     ensures log { machine.old.cpu.halt ≡ None → machine.new.memory.log ≡ log_of (machine_in machine.old) }
@@ -76,9 +77,9 @@ fn advance_judged(machine: &mut TracedMachine, judge: &mut Judge) -> Tick
     if let Some(code) = machine.cpu.halt {
         return Tick::Halted(code);
     }
-    let (ticks, span) = (machine.cpu.ticks, machine.span_left);
-    let answer = machine.advance();
-    judge_tick(judge, ticks, span, &machine.memory.log);
+    let ticks = machine.cpu.ticks;
+    let answer = machine.advance_calm();
+    judge_tick(judge, ticks, 0, &machine.memory.log);
     answer
 }
 

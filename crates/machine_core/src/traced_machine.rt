@@ -87,6 +87,23 @@ impl TracedMachine {
         answer
     }
 
+    /// The same in a calm state. No tick of a machine without a secondary cache opens a span, so that the state after it is calm too.
+    #[inline(always)]
+    pub fn advance_calm(&mut self) -> Tick
+        requires ticks { self.old.cpu.ticks < 4294967295 }
+        requires runs { self.old.cpu.halt ≡ None }
+        requires calm { self.old.span_left ≡ 0 }
+        ensures machine { machine_in self.new ≡ (tick_of (machine_in self.old)).machine }
+        ensures answer { result ≡ (tick_of (machine_in self.old)).answer }
+        ensures log { self.new.memory.log ≡ log_of (machine_in self.old) }
+        ensures calm { self.new.span_left ≡ 0 }
+        ensures span { self.new.span_left ≡ tick_span self.old.span_left (machine_in self.old) }
+        ensures ticks { goes_on result ≡ true → self.new.cpu.ticks ≡ self.old.cpu.ticks + 1 }
+        ensures runs { goes_on result ≡ true → self.new.cpu.halt ≡ None }
+    {
+        make_tick(&mut self.cpu, &mut self.memory)
+    }
+
     // Makes one tick of a machine that has not halted, and gathers its events.
     fn tick_on(&mut self) -> Tick
         requires ticks { self.old.cpu.ticks < 4294967295 }

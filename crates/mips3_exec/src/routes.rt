@@ -52,6 +52,7 @@ pub fn address_error(write: bool, bad: u32) -> Raised
 }
 
 // Where a mapped address leads.
+#[inline(never)]
 fn mapped_route(cpu: &Cpu, write: bool, va: u32, bad: u32) -> Route
     ensures route { result ≡ law.route_in cpu.now write va bad Seg.Mapped }
     ensures place { IsRoute va result }
@@ -69,6 +70,7 @@ fn mapped_route(cpu: &Cpu, write: bool, va: u32, bad: u32) -> Route
 }
 
 /// Where an address leads, in the mode of the moment. An exception shows the address `bad`.
+#[inline(always)]
 #[tactic(auto, unfolding(crate::specs::Routes::route_of))]
 pub fn route_of(cpu: &Cpu, write: bool, va: u32, bad: u32) -> Route
     ensures route { result ≡ law.route_of cpu.now write va bad }

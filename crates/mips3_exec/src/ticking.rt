@@ -81,6 +81,7 @@ fn talk<M: MemorySystem>(cpu: &mut Cpu, memory: &mut M) -> StepEnd
 }
 
 /// Makes one tick. After a halt it changes nothing, and answers the halt code again.
+#[inline(always)]
 #[tactic(auto, unfolding(crate::specs::Tick::tick_of))]
 pub fn make_tick<M: MemorySystem>(cpu: &mut Cpu, memory: &mut M) -> Tick
     requires { cpu.old.ticks < 4294967295 }
