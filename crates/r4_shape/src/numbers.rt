@@ -1,6 +1,6 @@
 //! A shape, and the parts of an address on it.
 
-ghost use Rattle.std.specs.Prelude.{◌≡◌, ◌<◌, ◌≤◌, ◌/◌, ◌%◌, true};
+ghost use Rattle.std.specs.Prelude.{◌≡◌, ◌<◌, ◌≤◌, ◌*◌, ◌/◌, ◌%◌, true};
 ghost use Rattle.r4_shape.specs.Address as address;
 ghost use Rattle.r4_shape.specs.Config.{block_field, config_of, size_field};
 ghost use Rattle.r4_shape.specs.Numbers.{HasPages, IsGroup, IsLine, IsPrim, IsShape, IsSize, colours, places, primary_alone, secondary_places, with_secondary};
@@ -199,22 +199,99 @@ impl Shape {
         self.lines_before(pa as u32)
     }
 
+    /// The first address of the primary line of an address.
+    #[inline]
+    pub fn line_start(&self, pa: u64) -> u64
+        ensures is { result ≡ pa / self.now.line * self.now.line }
+    {
+        if self.line == 16 {
+            pa / 16 * 16
+        } else {
+            pa / 32 * 32
+        }
+    }
+
+    // How many lines of the secondary cache end at an address or before it.
+    #[inline]
+    #[tactic(auto, using(crate::proofs::Fields::longest))]
+    fn groups_before(&self, at: u64) -> u64
+        requires secondary { self.now.sc ≡ true }
+        ensures is { result ≡ at / self.now.group }
+        ensures lengths { IsGroup self.now.group }
+    {
+        match self.group {
+            16 => at / 16,
+            32 => at / 32,
+            64 => at / 64,
+            _ => at / 128,
+        }
+    }
+
+    // Where a physical address lies in the secondary cache.
+    #[inline]
+    #[tactic(auto, using(crate::proofs::Fields::largest))]
+    fn within_secondary(&self, pa: u64) -> u64
+        requires secondary { self.now.sc ≡ true }
+        ensures is { result ≡ pa % self.now.size }
+        ensures sizes { IsSize self.now.size }
+    {
+        match self.size {
+            0x2_0000 => pa % 0x2_0000,
+            0x4_0000 => pa % 0x4_0000,
+            0x8_0000 => pa % 0x8_0000,
+            _ => pa % 0x10_0000,
+        }
+    }
+
     /// The number of the secondary line of an address in RAM.
     pub fn group_of(&self, pa: u64) -> u32
         requires secondary { self.now.sc ≡ true }
         requires ram { pa < 8388608 }
         ensures is { result ≡ address.group_of self.now pa }
     {
-        (pa / u64::from(self.group)) as u32
+        self.groups_before(pa) as u32
+    }
+
+    /// The first address of the secondary line of an address.
+    #[inline]
+    pub fn group_start(&self, pa: u64) -> u64
+        requires secondary { self.now.sc ≡ true }
+        ensures is { result ≡ pa / self.now.group * self.now.group }
+    {
+        self.groups_before(pa) * u64::from(self.group)
+    }
+
+    /// The place of an address in its line of the secondary cache.
+    #[inline]
+    #[tactic(auto, using(crate::proofs::Fields::longest))]
+    pub fn group_offset(&self, pa: u64) -> u32
+        requires secondary { self.now.sc ≡ true }
+        ensures is { result ≡ pa % self.now.group }
+    {
+        let at = match self.group {
+            16 => pa % 16,
+            32 => pa % 32,
+            64 => pa % 64,
+            _ => pa % 128,
+        };
+        at as u32
+    }
+
+    /// How many primary lines lie in a line of the secondary cache, 0 where there is none.
+    pub fn lines_in_group(&self) -> u32
+        ensures is { result ≡ self.now.group / self.now.line }
+    {
+        self.lines_before(self.group)
     }
 
     /// The place of a physical address in the secondary cache.
+    #[inline]
     pub fn place(&self, pa: u64) -> u32
         requires secondary { self.now.sc ≡ true }
         ensures is { result ≡ address.place self.now pa }
         ensures place { result < secondary_places self.now }
     {
-        (pa % u64::from(self.size) / u64::from(self.group)) as u32
+        self.groups_before(self.within_secondary(pa)) as u32
     }
 
     /// The register Config at reset.
