@@ -4,13 +4,14 @@ use Rattle.flat_ram.specs.Map.{ram_size}
 use Rattle.r4_shape.specs.Address.{pidx}
 use Rattle.line_moves.specs.declared.hierarchy.Hier.{Hier}
 use Rattle.line_moves.specs.declared.places.Place.{Place}
+use Rattle.line_moves.specs.declared.places.Held.{Held}
 use Rattle.line_moves.specs.Lines.{holds}
 use Rattle.line_moves.specs.Moves.{back, discard, discard_parts, discard_whole, forge, in_secondary, is_under_other_pidx, mark, out_at, ready_below, write_below_at, write_back}
 use Rattle.line_moves.proofs.Parts.{SameShape, shape_if, back_shape, discard_shape, discard_parts_shape, discard_whole_shape, fill_shape, forge_shape, mark_shape, out_shape, ready_below_shape, set_pidx_shape, write_below_at_shape, write_back_shape}
 use Rattle.cache_ops.specs.declared.operations.Operands.{Operands}
 use Rattle.cache_ops.specs.declared.operations.Operation.{Operation}
 use Rattle.cache_ops.specs.declared.operations.Operation.TheVariants.{IndexInvalidateI, IndexWritebackInvalidateD, IndexWritebackInvalidateSD, IndexLoadTagI, IndexLoadTagD, IndexLoadTagSD, IndexStoreTagI, IndexStoreTagD, IndexStoreTagSD, CreateDirtyExclusiveD, CreateDirtyExclusiveSD, HitInvalidateI, HitInvalidateD, HitInvalidateSD, FillI, HitWritebackInvalidateD, HitWritebackInvalidateSD, HitWritebackI, HitWritebackD, HitWritebackSD, HitSetVirtualSD}
-use Rattle.cache_ops.specs.Operations.{i_place, d_place, s_place, number_of, where_hit, where_in_ram, where_no_other_pidx, where_secondary, where_secondary_hit, state_field, secondary_state_field, made_by, store_tag, store_secondary_tag, create_dirty, create_secondary, refill, set_virtual, operated, operation_of, outcome, outcome_of}
+use Rattle.cache_ops.specs.Operations.{i_place, d_place, s_place, number_of, where_hit, where_in_ram, where_no_other_pidx, where_secondary, where_secondary_hit, state_field, secondary_state_field, made_by, secondary_made_by, store_tag, store_secondary_tag, create_dirty, create_secondary, refill, set_virtual, operated, operation_of, outcome, outcome_of}
 
 -- ---- moves under a condition
 
@@ -42,8 +43,9 @@ tag_shape p tag m =
 secondary_tag_shape : (o : Operands) (m : Hier) → SameShape (store_secondary_tag o m) m
 secondary_tag_shape o m =
     let w : Hier = discard_whole (s_place o m).index m in
-    shape_if (nat_lt (secondary_state_field o.tag) 4) w (forge (s_place o m) _ w) m (discard_whole_shape (s_place o m).index m)
-    (forge_shape (s_place o m) _ w ∙ discard_whole_shape (s_place o m).index m)
+    let made : Held = secondary_made_by m.caches.shape (s_place o m) o.tag in
+    shape_if (nat_lt (secondary_state_field o.tag) 4) w (forge (s_place o m) made w) m (discard_whole_shape (s_place o m).index m)
+    (forge_shape (s_place o m) made w ∙ discard_whole_shape (s_place o m).index m)
 
 create_shape : (o : Operands) (m : Hier) → SameShape (create_dirty o m) m
 create_shape o m =
