@@ -45,7 +45,10 @@ hint_usage() {
         word=${*:at+1:1}
         case ${wanted[at]} in
         SHAPE) [[ " $(shapes) " == *" $word "* ]] || tell "'$word' is no SHAPE" ;;
-        STEPS) [[ $word =~ ^(0|[1-9][0-9]{0,9})$ ]] && [ "$word" -le 4294967295 ] || tell "'$word' is no number of STEPS: decimal, without a leading zero" ;;
+        STEPS)
+            [[ $word =~ ^(0|[1-9][0-9]{0,9})$ ]] && [ "$word" -le 4294967295 ] ||
+                tell "'$word' is no number of STEPS: decimal, without a leading zero"
+            ;;
         esac
     done
 }
