@@ -1,11 +1,13 @@
-# Every exception but a refill: saves what C may change on the stack that is in use, and calls interrupt(Cause).
+# Every exception but a refill: saves what C may change on the stack that is in use, and calls interrupt(Cause). By interrupt.h.
 #include "r4k_cp0.h"
 
         .set    noreorder
         .set    noat
         .text
         .globl  general
+        .globl  interrupt_entry
 general:
+interrupt_entry:
         addiu   $sp, $sp, -96
         sw      $1, 16($sp)
         sw      $v0, 20($sp)

@@ -1,4 +1,5 @@
 /* A timer and a console driver by interrupts: a dot for each 10000 counts, and what is typed meanwhile. */
+#include "interrupt.h"
 #include "print.h"
 #include "r4k_cp0.h"
 
