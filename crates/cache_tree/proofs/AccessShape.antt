@@ -1,5 +1,5 @@
 -- An access keeps the shape.
-use Rattle.std.proofs.Common.{◌≡◌, ℕ, ◌%◌, Bool, true, false, nat_lt, if◌then◌else◌, refl, ◌∙◌}
+use Rattle.std.proofs.Common.{ℕ, ◌%◌, Bool, true, false, nat_lt, if◌then◌else◌, refl, ◌∙◌}
 use Rattle.std.specs.Int.{bytes_high_first}
 use Rattle.flat_ram.specs.Map.{ram_size}
 use Rattle.r4_shape.specs.Address.{granule}
