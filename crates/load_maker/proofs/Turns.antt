@@ -1,9 +1,9 @@
 -- One turn more.
-use Rattle.std.proofs.Common.{◌≡◌, ◌∙◌, ℕ, zero, suc, ◌+◌, List, [], ◌∷◌, ◌++◌, refl, ap, sym, arith, add-one, add-zero, append_assoc}
+use Rattle.std.proofs.Common.{◌≡◌, ◌∙◌, ℕ, zero, suc, ◌+◌, List, [], ◌∷◌, ◌++◌, refl, ap, sym, arith, add-one, add-zero, append_assoc, length, ◌*◌}
 use Rattle.std.specs.List.{flat_map, range_with_len}
 use Rattle.std.proofs.lemmas.List.{append-nil}
 use Rattle.std.proofs.lemmas.Grind.{flat_map-append}
-use Rattle.load_maker.specs.Program.{first_words, next, turn, turns, x_at}
+use Rattle.load_maker.specs.Program.{first_words, next, turn, turns, x_at, word_bytes}
 
 -- so many numbers from one on, and one number more
 counted_more : (a n : ℕ) → range_with_len a (suc n) ≡ range_with_len a n ++ (a + n) ∷ []
@@ -32,3 +32,13 @@ turn_taken number n x words are is =
     ∙ append_assoc first_words (turns number n) (turn (next x))
     ∙ ap (λ w. first_words ++ w)
     (ap (λ y. turns number n ++ turn (next y)) is ∙ sym (turns_more number n) ∙ ap (turns number) (sym (add-one n)))
+
+-- a turn has five words
+pub length_turn : (x : ℕ) → length (turn x) ≡ 5
+unfolding turn
+length_turn x = refl
+
+-- and a word has four bytes
+pub length_word_bytes : (words : List ℕ) → length (word_bytes words) ≡ 4 * length words
+length_word_bytes [] = refl
+length_word_bytes (word ∷ words) = omega (arith, length_word_bytes words)

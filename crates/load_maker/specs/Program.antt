@@ -17,7 +17,7 @@ abbrev pub x_at : ℕ → ℕ → ℕ
 x_at number zero = number
 x_at number (suc i) = next (x_at number i)
 
--- OFF: a word of the first or of the second of two pages
+-- OFF: a word in the first or in the second of two pages
 abbrev pub offset_of : ℕ → ℕ
 offset_of x = 4 * (x / 256 % 256) + 4096 * (x / 65536 % 2)
 
@@ -27,7 +27,7 @@ delta_of x = x % 256
 
 -- THE WORDS
 
--- the pair of pages at c0000000 is mapped to 01c000: cacheable, writable, valid and global
+-- both pages from c0000000 on are mapped to the page at 700000: cacheable (attribute 3), writable, valid and global
 unfoldable pub first_words : List ℕ
 first_words =
     lui s0 0xc000 ∷

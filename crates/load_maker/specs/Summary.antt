@@ -1,7 +1,6 @@
 -- The summary of the run of such a program, a line. The format is this project's own.
 use Rattle.std.specs.Prelude.{ℕ, List, ◌++◌, codes, Option, Some, None}
 use Rattle.r4_words.specs.Texts.{dec_of, hex_of}
-use Rattle.access_trace.specs.declared.event.Breach.{Breach}
 use Rattle.access_trace.specs.declared.event.Verdict.{Verdict}
 use Rattle.access_trace.specs.declared.event.Verdict.TheVariants.{Yes, No}
 use Rattle.load_maker.specs.declared.summary.Summary.{Summary}

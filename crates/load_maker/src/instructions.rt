@@ -8,14 +8,23 @@ use mips3_table::Inst;
 
 // The rows of the table, by their numbers.
 const ADDIU_ROW: u8 = 11;
+
 const ORI_ROW: u8 = 17;
+
 const LUI_ROW: u8 = 19;
+
 const LW_ROW: u8 = 25;
+
 const SW_ROW: u8 = 36;
+
 const CACHE_ROW: u8 = 43;
+
 const SLL_ROW: u8 = 54;
+
 const ADDU_ROW: u8 = 87;
+
 const MTC0_ROW: u8 = 122;
+
 const TLBWI_ROW: u8 = 125;
 
 // An instruction of a row that has no fields yet.

@@ -12,11 +12,17 @@ pub const PROGRAM_BASE: u32 = 0xa001_0000;
 
 // The registers, by their numbers.
 const T0: u8 = 8;
+
 const S0: u8 = 16;
+
 const S2: u8 = 18;
+
 const T9: u8 = 25;
+
 const ENTRY_LO0: u8 = 2;
+
 const ENTRY_LO1: u8 = 3;
+
 const ENTRY_HI: u8 = 10;
 
 // Hit Writeback Invalidate of the data cache.
