@@ -304,7 +304,13 @@ fn make_load<'a>(alloc: Global, load: &Load<'a>) -> Result<Product<'a>, Status>
 {
     let words = make_words(alloc, load.number, load.count)?;
     let image = load_image(alloc, &words)?;
-    run_load(alloc, words.len() as u32, 5 * load.count + 15, load.out, image)
+    run_load(
+        alloc,
+        words.len() as u32,
+        5 * load.count + 15,
+        load.out,
+        image,
+    )
 }
 
 /// Makes what a command asks for, or answers why nothing is made.
