@@ -1,5 +1,5 @@
 -- A load: its image, the run of it, and what that comes to.
-use Rattle.std.proofs.Common.{◌≡◌, ◌∙◌, ◌+◌, ℕ, List, [], ◌++◌, length, length-append, Option, Some, None, refl, ap, sym}
+use Rattle.std.proofs.Common.{◌≡◌, ◌∙◌, ◌+◌, ℕ, List, [], ◌++◌, length, length-append, Option, Some, None, ap, sym}
 use Rattle.std.proofs.lemmas.List.{append-nil}
 use Rattle.elf_image.specs.Written.{elf_header, program_header, image_of}
 use Rattle.machine_core.specs.declared.machine_state.Machine.{Machine}
