@@ -1,5 +1,5 @@
 -- An operation keeps the shape.
-use Rattle.std.proofs.Common.{◌≡◌, ℕ, ◌*◌, ◌==◌, Bool, true, false, nat_lt, if◌then◌else◌, Option, Some, None, refl, ◌∙◌}
+use Rattle.std.proofs.Common.{ℕ, ◌*◌, ◌==◌, true, nat_lt, Option, Some, None, refl, ◌∙◌}
 use Rattle.flat_ram.specs.Map.{ram_size}
 use Rattle.r4_shape.specs.Address.{pidx}
 use Rattle.line_moves.specs.declared.hierarchy.Hier.{Hier}

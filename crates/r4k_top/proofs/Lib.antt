@@ -4,3 +4,4 @@ pub mod Reading
 pub mod Benches
 pub mod FlatEnds
 pub mod SurePorts
+pub mod Loads

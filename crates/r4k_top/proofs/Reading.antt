@@ -301,7 +301,7 @@ name_of_file : (out : Option (List ℕ)) (bytes : List ℕ) → file_name (named
 name_of_file None bytes = refl
 name_of_file (Some name) bytes = refl
 
-made_here : (a b : Made) → Makes a ≡ Makes b → file_name a.file ≡ file_name b.file
+pub made_here : (a b : Made) → Makes a ≡ Makes b → file_name a.file ≡ file_name b.file
 made_here a b e = ap (λ (made : Made). file_name made.file) (made_same a b e)
   where
     made_same : (a b : Made) → Makes a ≡ Makes b → a ≡ b

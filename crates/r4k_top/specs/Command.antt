@@ -1,5 +1,5 @@
 -- The command that the words give, read by position. The words are this project's own.
-use Rattle.std.specs.Prelude.{ℕ, ◌==◌, Bool, List, [], length, codes, bytes_eq, string_bytes, slice_get, String, Vec, ◌&&◌, ◌++◌, if◌then◌else◌, Option, Some, None}
+use Rattle.std.specs.Prelude.{ℕ, ◌==◌, Bool, List, [], length, nat_le, codes, bytes_eq, string_bytes, slice_get, String, Vec, ◌&&◌, ◌++◌, if◌then◌else◌, Option, Some, None}
 use Rattle.std.specs.declared.alloc.Global.{Global}
 use Rattle.r4_words.specs.Texts.{read_dec}
 use Rattle.r4_shape.specs.Numbers.{Numbers}
@@ -40,6 +40,8 @@ pub data Command : Type 0 where
   Assemble : List ℕ → List ℕ → Command
   -- the listing of an image
   Disassemble : List ℕ → Command
+  -- the image of a load, from a number and a count of turns, put under a name
+  Make : ℕ → ℕ → List ℕ → Command
 
 -- six words, as `run SHAPE IMAGE SCRIPT DISK STEPS`, whatever they are
 abbrev pub is_run : Words → Bool
@@ -64,6 +66,10 @@ is_asm words = (length words.items == 3) && bytes_eq (word words 0) (codes "asm"
 -- the words `dis IMAGE`, whatever IMAGE is
 abbrev pub is_dis : Words → Bool
 is_dis words = (length words.items == 2) && bytes_eq (word words 0) (codes "dis")
+
+-- the words `make NUMBER COUNT OUT`, whatever NUMBER, COUNT and OUT are
+abbrev pub is_make : Words → Bool
+is_make words = (length words.items == 4) && bytes_eq (word words 0) (codes "make")
 
 -- the name of a script or of a disk: the word `-` stands for none
 abbrev pub given : List ℕ → Option (List ℕ)
@@ -109,6 +115,14 @@ judged_on trace None = None
 abbrev pub judge_of : Words → Option Command
 judge_of words = judged_on (word words 2) (shape_named (word words 1))
 
+-- a load, if both numbers are there and the count is one from 1 to 100000
+abbrev pub load_with : List ℕ → Option ℕ → Option ℕ → Option Command
+load_with out (Some number) (Some count) = if nat_le 1 count && nat_le count 100000 then Some (Make number count out) else None
+load_with out number count = None
+
+abbrev pub make_of : Words → Option Command
+make_of words = load_with (word words 3) (read_dec (word words 1)) (read_dec (word words 2))
+
 -- the command of the words: none where they match no command that is built
 unfoldable pub command_of : Words → Option Command
 command_of words =
@@ -116,6 +130,7 @@ command_of words =
     else if is_judge words then judge_of words
     else if is_asm words then Some (Assemble (word words 1) (word words 2))
     else if is_dis words then Some (Disassemble (word words 1))
+    else if is_make words then make_of words
     else None
 
 -- the name under which the changed disk is put, where a disk is given: the disk's own, followed by `.out`
@@ -129,6 +144,7 @@ put_name (Run plan) = disk_out plan.disk
 put_name (Judge shape trace) = None
 put_name (Assemble source out) = Some out
 put_name (Disassemble image) = None
+put_name (Make number count out) = Some out
 
 -- the name under which the words put a file, where they do
 abbrev pub out_name : Option Command → Option (List ℕ)

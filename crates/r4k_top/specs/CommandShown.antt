@@ -2,7 +2,7 @@
 use Rattle.std.specs.Prelude.{ℕ, List, Option, Some, None}
 use Rattle.std.specs.Borrow.{Bor}
 use Rattle.r4k_top.specs.declared.commands.Command.{Command}
-use Rattle.r4k_top.specs.declared.commands.Command.TheVariants.{Run, Judge, Assemble, Disassemble}
+use Rattle.r4k_top.specs.declared.commands.Command.TheVariants.{Run, Judge, Assemble, Disassemble, Make}
 use Rattle.r4k_top.specs.declared.plan.Plan.{Plan}
 use Rattle.r4k_top.specs.Command as law
 
@@ -28,3 +28,4 @@ command_shown (Run plan) = law.Run (plan_shown plan)
 command_shown (Judge inquiry) = law.Judge inquiry.shape inquiry.trace.now
 command_shown (Assemble source out) = law.Assemble source.now out.now
 command_shown (Disassemble image) = law.Disassemble image.now
+command_shown (Make load) = law.Make load.number load.count load.out.now

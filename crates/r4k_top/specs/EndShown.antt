@@ -14,7 +14,7 @@ use Rattle.r4k_top.specs.declared.product.Finished.{Finished}
 use Rattle.r4k_top.specs.declared.product.Finished.TheVariants as finished
 use Rattle.r4k_top.specs.declared.product.Product.{Product}
 use Rattle.r4k_top.specs.declared.product.Product.TheVariants as product
-use Rattle.r4k_top.specs.Outcome.{File, Made, named_file, checked, judged}
+use Rattle.r4k_top.specs.Outcome.{File, Made, named_file, checked, judged, summed_up}
 
 -- the name of a file, where there is one
 abbrev pub out_shown : Option (String Global) → Option (List ℕ)
@@ -41,6 +41,8 @@ finished_shown (finished.Judged judge) = judged judge.first
 finished_shown (finished.Listing image) = record { verdict = None; text = listing_of image; file = None }
 finished_shown (finished.File name bytes) =
     record { verdict = None; text = []; file = Some (record { name = name.now; bytes = bytes.items }) }
+finished_shown (finished.Load bench words name image) =
+    summed_up words name.now image bench.judge.first (machine_in bench.machine)
 
 -- what a job makes
 abbrev pub made_shown : Product → Made

@@ -1,10 +1,13 @@
 -- What the words come to, as a function of the bytes that stand under each name: how many of the files are fetched, and
 -- what is made of them, or why nothing is. What stands after an answer is said of it once for all commands.
-use Rattle.std.specs.Prelude.{ℕ, List, [], ◌∷◌, ◌++◌, Option, Some, None, Result, Ok, Err}
+use Rattle.std.specs.Prelude.{ℕ, List, [], ◌∷◌, ◌++◌, length, Option, Some, None, Result, Ok, Err}
 use Rattle.elf_image.specs.Written.{image_of}
 use Rattle.mips_asm.specs.Assembly.{Assembly, Image, Bad, assembled}
 use Rattle.image_listing.specs.Listing.{listing_of}
-use Rattle.r4_shape.specs.Numbers.{Numbers}
+use Rattle.r4_shape.specs.Numbers.{Numbers, primary_alone}
+use Rattle.load_maker.specs.Program.{program, program_base, program_ticks, word_bytes}
+use Rattle.load_maker.specs.declared.summary.Summary.{Summary}
+use Rattle.load_maker.specs.Summary.{summary_text}
 use Rattle.machine_core.specs.declared.machine_state.Machine.{Machine}
 use Rattle.machine_core.specs.Machine.{Reached, reset_of}
 use Rattle.machine_core.specs.Run.{run_of}
@@ -24,7 +27,7 @@ use Rattle.r4_ports.specs.Told.{Call, fetch_of}
 use Rattle.r4k_top.specs.BootProm.{boot_prom}
 use Rattle.r4k_top.specs.declared.telling.Telling.{Telling}
 use Rattle.r4k_top.specs.declared.telling.Telling.TheVariants as telling
-use Rattle.r4k_top.specs.Command.{Plan, Command, Run, Judge, Assemble, Disassemble, disk_out}
+use Rattle.r4k_top.specs.Command.{Plan, Command, Run, Judge, Assemble, Disassemble, Make, disk_out}
 use Rattle.r4k_top.specs.Wanted.{Refusal, NoCommand, Unreadable, Unparsed, Refused, Wanted, refusal_of, wanted_of}
 
 -- a file for the shelf
@@ -134,6 +137,43 @@ put_image name (Bad line reason) = Refuses (Refused line reason)
 abbrev pub list_job : List ℕ → End
 list_job bytes = Makes (record { verdict = None; text = listing_of bytes; file = None })
 
+-- A LOAD
+
+-- the shape on which a load is run: pc/32
+abbrev pub load_shape : Numbers
+load_shape = primary_alone 8192 32
+
+-- the image of a load
+abbrev pub load_image : ℕ → ℕ → List ℕ
+load_image number count = image_of program_base program_base (word_bytes (program number count))
+
+-- what is told of the run of so many words, by the first event that broke a rule and the machine at its end
+abbrev pub summary_by : ℕ → Option Found → Machine → Summary
+summary_by words first machine = record {
+  words = words;
+  ticks = (shown_of machine).ticks;
+  halt = (shown_of machine).halt;
+  verdict = verdict_by first;
+}
+
+-- its summary, and the image put under a name; the job is done whatever the verdict is
+abbrev pub summed_up : ℕ → List ℕ → List ℕ → Option Found → Machine → Made
+summed_up words name image first machine = record {
+  verdict = None;
+  text = summary_text (summary_by words first machine);
+  file = Some (record { name = name; bytes = image });
+}
+
+-- an image that is run on that shape within a bound, without a script and a disk
+unfoldable pub run_load : ℕ → ℕ → List ℕ → List ℕ → End
+run_load words steps name image =
+    Makes (summed_up words name image (standing_of load_shape (trace_from load_shape steps image [] [])).first
+    (run_from load_shape steps image [] []).machine)
+
+-- the load of a number, with so many turns
+abbrev pub load_job : ℕ → ℕ → List ℕ → End
+load_job number count name = run_load (length (program number count)) (program_ticks count) name (load_image number count)
+
 -- ALL COMMANDS
 
 -- what the job of a command comes to, over the bytes that stand under each name, where no file is refused
@@ -142,6 +182,7 @@ job_of (Run plan) held = run_by plan (held plan.image) (bytes_given held plan.di
 job_of (Judge shape trace) held = judge_job shape (trace_of (held trace))
 job_of (Assemble source out) held = put_image out (assembled (held source))
 job_of (Disassemble image) held = list_job (held image)
+job_of (Make number count out) held = load_job number count out
 
 -- What the words come to: the fetches that are made, and the end.
 pub record Outcome : Type 0 where

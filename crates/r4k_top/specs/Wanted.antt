@@ -10,7 +10,7 @@ use Rattle.mips_asm.specs.Assembly.{Assembly, Image, Bad, assembled}
 use Rattle.input_script.specs.declared.faults.ScriptWhy.{ScriptWhy}
 use Rattle.input_script.specs.Grammar as script
 use Rattle.r4_ports.specs.Told.{Call, fetch_of, put_of}
-use Rattle.r4k_top.specs.Command.{Plan, Command, Run, Judge, Assemble, Disassemble, out_name}
+use Rattle.r4k_top.specs.Command.{Plan, Command, Run, Judge, Assemble, Disassemble, Make, out_name}
 
 -- Why nothing is made.
 pub data Refusal : Type 0 where
@@ -108,6 +108,7 @@ wanted_of (Run plan) = wanted_by plan
 wanted_of (Judge shape trace) = a_trace trace ∷ []
 wanted_of (Assemble source out) = a_source source ∷ []
 wanted_of (Disassemble image) = an_image image ∷ []
+wanted_of (Make number count out) = []
 
 -- the fetches that the words ask for, in their order
 abbrev pub fetches_of : Option Command → List Call

@@ -4,10 +4,13 @@ ghost use Rattle.std.specs.Prelude.{◌≡◌, IfSome, IsNone, Some, ◌↔◌, 
 ghost use Rattle.r4k_top.specs.Command as law;
 ghost use Rattle.r4k_top.specs.CommandShown.{name_shown, plan_shown, command_shown};
 
-use crate::plan::{Inquiry, Plan};
+use crate::plan::{Inquiry, Load, Plan};
 use crate::telling::Telling;
 use r4_shape::{Shape, read_shape};
 use r4_words::read_dec;
+
+/// The most turns of a load.
+const LARGEST_COUNT: u32 = 100_000;
 
 /// What the words ask for. Files go by their names on the shelf.
 #[derive(Clone, Copy)]
@@ -22,6 +25,8 @@ pub enum Command<'a> {
     Assemble { source: &'a str, out: &'a str },
     /// `dis IMAGE`: writes the listing of an image.
     Disassemble { image: &'a str },
+    /// `make NUMBER COUNT OUT`: puts the image of a load, runs it, and writes the summary of that run.
+    Make(Load<'a>),
 }
 
 // The word at a position, or an empty text.
@@ -72,6 +77,12 @@ fn is_dis(words: &Vec<String>) -> bool
     ensures { result ≡ law.is_dis words.now }
 {
     words.len() == 2 && word(words, 0) == "dis"
+}
+
+fn is_make(words: &Vec<String>) -> bool
+    ensures { result ≡ law.is_make words.now }
+{
+    words.len() == 4 && word(words, 0) == "make"
 }
 
 // The name of a script or of a disk; the word `-` stands for none.
@@ -139,6 +150,26 @@ fn run_by<'a>(words: &'a Vec<String>) -> Option<Command<'a>>
     }
 }
 
+// The load, None where the words give no number, or no count from 1 to 100000.
+fn make_of<'a>(words: &'a Vec<String>) -> Option<Command<'a>>
+    ensures none { IsNone result ↔ IsNone (law.make_of words.now) }
+    ensures some { IfSome result (λ command. law.make_of words.now ≡ Some (command_shown command)) }
+{
+    match (
+        read_dec(word(words, 1).as_bytes()),
+        read_dec(word(words, 2).as_bytes()),
+    ) {
+        (Some(number), Some(count)) if 1 <= count && count <= LARGEST_COUNT => {
+            Some(Command::Make(Load {
+                number,
+                count,
+                out: word(words, 3),
+            }))
+        }
+        _ => None,
+    }
+}
+
 /// The command of the words, None where they are no command that is built.
 #[tactic(auto, unfolding(crate::specs::Command::command_of))]
 pub fn read_command<'a>(words: &'a Vec<String>) -> Option<Command<'a>>
@@ -161,6 +192,9 @@ pub fn read_command<'a>(words: &'a Vec<String>) -> Option<Command<'a>>
         return Some(Command::Disassemble {
             image: word(words, 1),
         });
+    }
+    if is_make(words) {
+        return make_of(words);
     }
     None
 }

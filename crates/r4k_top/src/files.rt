@@ -9,6 +9,8 @@ ghost use Rattle.input_script.specs.Grammar as script;
 ghost use Rattle.r4k_top.specs.CommandShown.{name_shown};
 ghost use Rattle.r4k_top.specs.Wanted.{file_limit, disk_limit, trace_limit, an_image, a_script, a_disk, a_trace, a_source, if_given};
 ghost use Rattle.r4k_top.specs.Wanted.{script_refusal, trace_refusal, line_refusal};
+ghost use Rattle.elf_image.specs.Written.{image_of};
+ghost use Rattle.load_maker.specs.Program.{program_base, word_bytes};
 ghost use Rattle.r4k_top.specs.Outcome.{Makes, judged, judge_job};
 ghost use Rattle.r4k_top.specs.Clauses.{OfFile};
 ghost use Rattle.r4k_top.specs.Making.{refused_status, MayStop, RefusedAs, GivenRefusedAs, Accepted, AllAccepted};
@@ -19,8 +21,9 @@ use crate::plan::{Inquiry, Plan};
 use crate::statuses::Status;
 use access_trace::TraceFault;
 use checked_run::judge_text;
-use elf_image::{Image, read_image};
+use elf_image::{Image, read_image, write_image};
 use input_script::{Script, ScriptFault, read_script};
+use load_maker::{PROGRAM_BASE, word_bytes};
 use mips_asm::{AsmFault, Built, assemble};
 use r4_ports::{FetchFault, Shelf};
 use r4_shape::Shape;
@@ -91,6 +94,25 @@ impl ImageFile {
             Err(_) => unreachable!(),
         }
     }
+
+    /// Its bytes.
+    pub fn bytes(&self) -> &[u8]
+        ensures { result.now ≡ self.now }
+    {
+        self.bytes.as_slice()
+    }
+}
+
+/// The image of the words of a load.
+#[tactic(auto, using(crate::proofs::Loads::length_image))]
+pub fn load_image(alloc: Global, words: &[u32]) -> Result<ImageFile, Status>
+    requires { length words.now ≤ 500010 }
+    ensures image { IfOk result (λ image. image ≡ image_of program_base program_base (word_bytes words.now)) }
+    ensures stopped { IfErr result (λ status. status ≡ Status.Memory) }
+{
+    let body = word_bytes(alloc, words)?;
+    let bytes = write_image(alloc, PROGRAM_BASE, PROGRAM_BASE, &body)?;
+    Ok(ImageFile { bytes })
 }
 
 /// Reads an image.

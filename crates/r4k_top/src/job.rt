@@ -1,7 +1,7 @@
 //! What the commands make, each of the files that it wants: a straight line of readers, and then the job. Nothing is
 //! written or put here.
 
-ghost use Rattle.std.specs.Prelude.{◌≡◌, ◌≤◌, length, IfOk, IfErr, OnOk, Some};
+ghost use Rattle.std.specs.Prelude.{◌≡◌, ◌≤◌, [], length, IfOk, IfErr, OnOk, Some};
 ghost use Rattle.r4_ports.specs.Told.{Rose, Appended};
 ghost use Rattle.machine_core.specs.Machine.{reset_of};
 ghost use Rattle.machine_core.specs.Traced.{machine_in};
@@ -11,7 +11,8 @@ ghost use Rattle.r4k_top.specs.BootProm.{boot_prom};
 ghost use Rattle.r4k_top.specs.Command as law;
 ghost use Rattle.r4k_top.specs.CommandShown.{name_shown, plan_shown, command_shown};
 ghost use Rattle.r4k_top.specs.Wanted.{disk_limit, wanted_by};
-ghost use Rattle.r4k_top.specs.Outcome.{Makes, Refuses, run_job};
+ghost use Rattle.r4k_top.specs.Outcome as outcome;
+ghost use Rattle.r4k_top.specs.Outcome.{Makes, Refuses, run_job, load_shape, load_job};
 ghost use Rattle.r4k_top.specs.Answers.{status_of};
 ghost use Rattle.r4k_top.specs.EndShown.{out_shown, made_shown, RunWillBeFlat};
 ghost use Rattle.r4k_top.specs.FlatRuns.{flat_from, IsFlatWhereYes, ToldFlat, YesIsFlat};
@@ -19,9 +20,9 @@ ghost use Rattle.r4k_top.specs.Making.{MayStop, AllAccepted, fetches, MadeOf, St
 
 use crate::commands::Command;
 use crate::files::{
-    ImageFile, read_disk_of, read_image_file, read_judged, read_script_of, read_source,
+    ImageFile, load_image, read_disk_of, read_image_file, read_judged, read_script_of, read_source,
 };
-use crate::plan::{Inquiry, Plan};
+use crate::plan::{Inquiry, Load, Plan};
 use crate::product::{Finished, Product};
 use crate::prom_words::boot_prom;
 use crate::statuses::Status;
@@ -30,8 +31,10 @@ use crate::traced_run::TracedRun;
 use elf_image::write_image;
 use flat_bridge::Bench;
 use input_script::Script;
+use load_maker::make_words;
 use machine_core::Machine;
 use r4_ports::Shelf;
+use r4_shape::Shape;
 use std::alloc::Global;
 
 /// What a run is made of.
@@ -261,6 +264,55 @@ fn make_listing<'a, F: Shelf>(
     Ok(Product::Finished(Finished::Listing(image)))
 }
 
+// The bench of an image on pc/32, without a script and a disk, of which no tick was made.
+fn load_bench(alloc: Global, image: &ImageFile) -> Result<Bench, Status>
+    ensures begins { IfOk result (Begins load_shape (reset_of load_shape boot_prom image.now [] [])) }
+    ensures stopped { IfErr result (λ status. status ≡ Status.Memory) }
+{
+    let shape = Shape::primary_alone(8192, 32);
+    let prom = boot_prom();
+    let script = Script::empty(alloc);
+    Ok(Bench::new(alloc, shape, &prom, &image.image(), Vec::new(alloc), script)?)
+}
+
+// Runs a load of so many words for at most so many ticks, for its summary. All memory is taken before the first tick.
+#[tactic(auto, using(crate::proofs::Loads::load_made))]
+fn run_load<'a>(
+    alloc: Global,
+    words: u32,
+    steps: u32,
+    name: &'a str,
+    image: ImageFile,
+) -> Result<Product<'a>, Status>
+    ensures made { IfOk result (λ product. outcome.run_load words steps name.now image ≡ Makes (made_shown product)) }
+    ensures stopped { IfErr result (λ status. status ≡ Status.Memory) }
+{
+    let mut bench = load_bench(alloc, &image)?;
+    bench.run(steps);
+    Ok(Product::Finished(Finished::Load {
+        bench,
+        words,
+        name,
+        image,
+    }))
+}
+
+// Makes a load, and runs it.
+fn make_load<'a>(alloc: Global, load: &Load<'a>) -> Result<Product<'a>, Status>
+    ensures made { IfOk result (λ product. load_job load.now.number load.now.count load.now.out.now ≡ Makes (made_shown product)) }
+    ensures stopped { IfErr result (λ status. status ≡ Status.Memory) }
+{
+    let words = make_words(alloc, load.number, load.count)?;
+    let image = load_image(alloc, &words)?;
+    run_load(
+        alloc,
+        words.len() as u32,
+        5 * load.count + 15,
+        load.out,
+        image,
+    )
+}
+
 /// Makes what a command asks for, or answers why nothing is made.
 pub fn make<'a, F: Shelf>(
     alloc: Global,
@@ -282,5 +334,6 @@ pub fn make<'a, F: Shelf>(
         Command::Judge(inquiry) => make_verdict(alloc, inquiry, shelf),
         Command::Assemble { source, out } => make_image(alloc, *source, *out, shelf),
         Command::Disassemble { image } => make_listing(alloc, *image, shelf),
+        Command::Make(load) => make_load(alloc, load),
     }
 }

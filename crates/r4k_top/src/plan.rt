@@ -1,6 +1,6 @@
-//! What a run is made by, and what is judged.
+//! What a run is made by, what is judged, and what a load is made of.
 
-ghost use Rattle.std.specs.Prelude.{◌≡◌, false};
+ghost use Rattle.std.specs.Prelude.{◌≡◌, ◌≤◌, false};
 
 use crate::telling::Telling;
 use r4_shape::Shape;
@@ -26,4 +26,13 @@ pub struct Inquiry<'a> {
     pub shape: Shape,
     pub trace: &'a str,
     ghost primary: { shape.sc ≡ false },
+}
+
+/// A load: the number from which it is made, how many turns it has, and the name under which its image is put.
+#[derive(Clone, Copy)]
+pub struct Load<'a> {
+    pub number: u32,
+    pub count: u32,
+    pub out: &'a str,
+    ghost small: { count ≤ 100000 },
 }

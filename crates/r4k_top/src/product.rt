@@ -6,7 +6,8 @@ ghost use Rattle.flat_bridge.specs.Runs.{RunWasFlat};
 ghost use Rattle.r4k_top.specs.Answers as answers;
 ghost use Rattle.r4k_top.specs.Answers.{IsComplete};
 ghost use Rattle.r4k_top.specs.Wanted.{puts_to};
-ghost use Rattle.r4k_top.specs.Outcome.{file_name, named_file};
+ghost use Rattle.machine_core.specs.Traced.{machine_in};
+ghost use Rattle.r4k_top.specs.Outcome.{file_name, named_file, summary_by};
 ghost use Rattle.r4k_top.specs.Clauses.{HasPut, PutRose, OthersStay};
 ghost use Rattle.r4k_top.specs.EndShown.{out_shown, file_shown, finished_shown, traced_shown, made_shown, RunWillBeFlat};
 ghost use Rattle.r4k_top.specs.Making.{IsLate, Placed, Delivered};
@@ -18,6 +19,7 @@ use access_trace::Verdict;
 use checked_run::{write_checked, write_judged, write_traced};
 use flat_bridge::Bench;
 use image_listing::write_listing;
+use load_maker::{Summary, write_summary};
 use machine_core::Machine;
 use r4_ports::{PutFault, Shelf, Sink, SinkFault, write_all};
 use run_report::write_report;
@@ -46,6 +48,13 @@ pub enum Finished<'a> {
         name: &'a str,
         bytes: Vec<u8>,
     },
+    /// A load of so many words that was run and judged, of which the summary is written, and its image, which is put under a name.
+    Load {
+        bench: Bench,
+        words: u32,
+        name: &'a str,
+        image: ImageFile,
+    },
 }
 
 /// What a job makes.
@@ -55,6 +64,18 @@ pub enum Product<'a> {
     Finished(Finished<'a>),
     /// A run that is made while its trace is written, and the name under which its disk is put then, where there is one.
     Traced { run: TracedRun, out: Option<String> },
+}
+
+// What is told of the run of a load.
+fn summary_of(bench: &Bench, words: u32) -> Summary
+    ensures { result ≡ summary_by words bench.now.judge.first (machine_in bench.now.machine) }
+{
+    Summary {
+        words,
+        ticks: bench.ticks(),
+        halt: bench.halted(),
+        verdict: bench.verdict(),
+    }
 }
 
 // Writes the text, so that it has gone out. The text beside a file is empty, and is flushed as every other.
@@ -71,6 +92,7 @@ fn write_text<K: Sink>(finished: &Finished<'_>, out: &mut K) -> Result<(), SinkF
         Finished::Judged(judge) => write_judged(judge, out),
         Finished::Listing(image) => write_listing(&image.image(), out),
         Finished::File { .. } => write_all(b"", out),
+        Finished::Load { bench, words, .. } => write_summary(&summary_of(bench, *words), out),
     }
 }
 
@@ -95,7 +117,10 @@ fn status_of(finished: &Finished<'_>) -> Status
     match finished {
         Finished::Checked { bench, out: _ } => status_of_verdict(bench.verdict()),
         Finished::Judged(judge) => status_of_verdict(judge.verdict()),
-        Finished::Report { .. } | Finished::Listing(_) | Finished::File { .. } => Status::Done,
+        Finished::Report { .. }
+        | Finished::Listing(_)
+        | Finished::File { .. }
+        | Finished::Load { .. } => Status::Done,
     }
 }
 
@@ -128,6 +153,10 @@ fn file_of<'a>(finished: &'a Finished<'_>) -> Option<FileMade<'a>>
         Finished::Checked { bench, out } => disk_made(bench.view().disk, out),
         Finished::Judged(_) | Finished::Listing(_) => None,
         Finished::File { name, bytes } => Some(FileMade { name, bytes }),
+        Finished::Load { name, image, .. } => Some(FileMade {
+            name,
+            bytes: image.bytes(),
+        }),
     }
 }
 

@@ -1,0 +1,3 @@
+pub mod Instructions
+pub mod Program
+pub mod Summary
