@@ -1,0 +1,2 @@
+//! A trial.
+#![tactic(auto)]
