@@ -23,11 +23,11 @@ of_cond : {X : Type 0} → (b : Bool) (x y : Hier) (g : Hier → X) → g (cond 
 of_cond true x y g = refl
 of_cond false x y g = refl
 
-same_cond : {X : Type 0} → (b : Bool) (x : X) → cond b x x ≡ x
+pub same_cond : {X : Type 0} → (b : Bool) (x : X) → cond b x x ≡ x
 same_cond true x = refl
 same_cond false x = refl
 
-flipped : (a b : ℕ) → eqb a b ≡ eqb b a
+pub flipped : (a b : ℕ) → eqb a b ≡ eqb b a
 flipped a b = elim (cases_eq a b) [
   | inl e ↦ eq-eqb a b e ∙ sym (eq-eqb b a (sym e))
   | inr ne ↦ ne_eqb a b ne ∙ sym (ne_eqb b a (λ e. ne (sym e)))
@@ -52,11 +52,11 @@ one_emptied xs p n k = elim (cases_eq k p) [
 -- ---- the numbers of the parts
 
 -- whether a number is one of so many from one on
-abbrev among : ℕ → ℕ → ℕ → Bool
+abbrev pub among : ℕ → ℕ → ℕ → Bool
 among first zero n = false
 among first (suc count) n = if eqb n (first + count) then true else among first count n
 
-among_past : (first c n : ℕ) → first + c ≤ n → among first c n ≡ false
+pub among_past : (first c n : ℕ) → first + c ≤ n → among first c n ≡ false
 among_past first zero n le = refl
 among_past first (suc c) n le = rw (ne_eqb n (first + c) (λ e. omega arith)) (among_past first c n (omega arith))
 
@@ -72,7 +72,7 @@ among_within first (suc c) n low high = elim (cases_eq n (first + c)) [
 ]
 
 -- a statement of the lengths of a primary and of a secondary line, shown for each pair
-by_lengths : (P : ℕ → ℕ → Type 0) (line group : ℕ) → IsLine line → IsGroup group → line ≤ group
+pub by_lengths : (P : ℕ → ℕ → Type 0) (line group : ℕ) → IsLine line → IsGroup group → line ≤ group
     → P 16 16 → P 16 32 → P 16 64 → P 16 128 → P 32 32 → P 32 64 → P 32 128 → P line group
 by_lengths P line group l g le a b c d e f h = elim l [
   | inl q ↦ rw q (elim g [ inl r ↦ rw r a | inr o ↦ elim o [ inl r ↦ rw r b | inr p ↦ elim p [ inl r ↦ rw r c | inr r ↦ rw r d ] ] ])
@@ -89,11 +89,11 @@ in_line : (line group x n : ℕ) → IsLine line → IsGroup group → line ≤ 
 in_line line group x n l g le = by_lengths (λ line group. x * group / line ≤ n → n < x * group / line + group / line → n * line / group ≡ x) line group l g le
     (λ a b. omega arith) (λ a b. omega arith) (λ a b. omega arith) (λ a b. omega arith) (λ a b. omega arith) (λ a b. omega arith) (λ a b. omega arith)
 
-whole_lines : (line group x : ℕ) → IsLine line → IsGroup group → line ≤ group → x * group ≡ x * group / line * line
+pub whole_lines : (line group x : ℕ) → IsLine line → IsGroup group → line ≤ group → x * group ≡ x * group / line * line
 whole_lines line group x l g le = by_lengths (λ line group. x * group ≡ x * group / line * line) line group l g le
     (omega arith) (omega arith) (omega arith) (omega arith) (omega arith) (omega arith) (omega arith)
 
-among_is : (line group x n : ℕ) → IsLine line → IsGroup group → line ≤ group → among (x * group / line) (group / line) n ≡ eqb (n * line / group) x
+pub among_is : (line group x n : ℕ) → IsLine line → IsGroup group → line ≤ group → among (x * group / line) (group / line) n ≡ eqb (n * line / group) x
 among_is line group x n l g le = elim (cases_eq (n * line / group) x) [
   | inl e ↦ (let w = within_line line group x n l g le e in among_within (x * group / line) (group / line) n w.0 w.1 ∙ sym (eq-eqb _ _ e))
   | inr ne ↦ elim (cases_lt n (x * group / line)) [
@@ -105,33 +105,33 @@ among_is line group x n l g le = elim (cases_eq (n * line / group) x) [
   ]
 ]
 
-number_of_part : (line first c : ℕ) → IsLine line → (first * line + c * line) / line ≡ first + c
+pub number_of_part : (line first c : ℕ) → IsLine line → (first * line + c * line) / line ≡ first + c
 number_of_part line first c l = elim l [ inl e ↦ rw e (omega arith) | inr e ↦ rw e (omega arith) ]
 
-address_of_part : (line first c : ℕ) → IsLine line → first * line + c * line ≡ (first + c) * line
+pub address_of_part : (line first c : ℕ) → IsLine line → first * line + c * line ≡ (first + c) * line
 address_of_part line first c l = elim l [ inl e ↦ rw e (omega arith) | inr e ↦ rw e (omega arith) ]
 
 -- ---- what a place holds after a move was made for some parts
 
-abbrev on_line : (Line → Option Line) → Option Line → Option Line
+abbrev pub on_line : (Line → Option Line) → Option Line → Option Line
 on_line f None = None
 on_line f (Some l) = f l
 
 module _ (s : Numbers) (pidx first : ℕ) where
   -- the index that is chosen for a number
-  abbrev index_for : ℕ → ℕ
+  abbrev pub index_for : ℕ → ℕ
   index_for n = index_under s pidx (n * s.line)
 
   -- a line is one of the parts so far, and stands at the index
-  abbrev is_part_so_far : ℕ → ℕ → Line → Bool
+  abbrev pub is_part_so_far : ℕ → ℕ → Line → Bool
   is_part_so_far c k l = among first c l.number && (index_for l.number == k)
 
-  abbrev so_far : (Line → Option Line) → ℕ → ℕ → Option Line → Option Line
+  abbrev pub so_far : (Line → Option Line) → ℕ → ℕ → Option Line → Option Line
   so_far f c k None = None
   so_far f c k (Some l) = if is_part_so_far c k l then f l else Some l
 
   -- one part more
-  one_more : (f : Line → Option Line) (c k : ℕ) (o : Option Line) → ((l : Line) (n : ℕ) → l.number ≢ n → is_line n (f l) ≡ false)
+  pub one_more : (f : Line → Option Line) (c k : ℕ) (o : Option Line) → ((l : Line) (n : ℕ) → l.number ≢ n → is_line n (f l) ≡ false)
       → so_far f (suc c) k o
       ≡ cond (eqb k (index_for (first + c))) (cond (is_line (first + c) (so_far f c k o)) (on_line f (so_far f c k o)) (so_far f c k o)) (so_far f c k o)
   one_more f c k None other = sym (same_cond (eqb k (index_for (first + c))) None)
@@ -183,7 +183,7 @@ record DiscardedSoFar (s : Numbers) (pidx first c : ℕ) (old new : Hier) : Type
   i : (k : ℕ) → get_or new.caches.i k None ≡ so_far s pidx first gone c k (get_or old.caches.i k None)
   rest : Leaves old new
 
-none_so_far : (s : Numbers) (pidx first k : ℕ) (f : Line → Option Line) (o : Option Line) → o ≡ so_far s pidx first f 0 k o
+pub none_so_far : (s : Numbers) (pidx first k : ℕ) (f : Line → Option Line) (o : Option Line) → o ≡ so_far s pidx first f 0 k o
 none_so_far s pidx first k f None = refl
 none_so_far s pidx first k f (Some l) = refl
 

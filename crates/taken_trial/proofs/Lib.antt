@@ -1,1 +1,2 @@
 pub mod TakenAlong
+pub mod WrittenBack
