@@ -84,6 +84,14 @@ pub record ArePartsDiscarded (x : Line) (old new : Hier) : Type 0 where
   pub ram : new.ram ≡ old.ram
   pub shape : new.caches.shape ≡ old.caches.shape
 
+-- The secondary line that stood at an index was discarded unwritten with its parts, and all else is as it was.
+pub record IsDiscardedWhole (index : ℕ) (x : Line) (old new : Hier) : Type 0 where
+  pub d : (at : ℕ) → line_of (data_place at) new ≡ without_part old.caches.shape x at (line_of (data_place at) old)
+  pub i : (at : ℕ) → line_of (instruction_place at) new ≡ without_part old.caches.shape x at (line_of (instruction_place at) old)
+  pub s : new.caches.s ≡ slice_set old.caches.s index None
+  pub ram : new.ram ≡ old.ram
+  pub shape : new.caches.shape ≡ old.caches.shape
+
 -- RAM got the bytes of a secondary line with its data lines where one of them was dirty, and no other.
 pub record IsInRam (x : Line) (old new : Hier) : Type 0 where
   pub stored : IsDirtyWithParts old x → new.ram ≡ put_within old.ram (x.number * old.caches.shape.group) (gathered_line old x).bytes

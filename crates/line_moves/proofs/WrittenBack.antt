@@ -13,8 +13,8 @@ use Rattle.line_moves.specs.declared.places.Side.TheVariants.{I, D, S}
 use Rattle.line_moves.specs.declared.places.Place.{Place}
 use Rattle.line_moves.specs.Lines.{AreLines, Line, CacheLines, is_line, holds, line_at, marked, written, dirty_of, line_bytes, with_line}
 use Rattle.line_moves.specs.Moves.{line_of, put_within, to_ram, each_part, parts, gather, gather_at, gather_line, back, back_secondary, write_back, write_back_line, place_under}
-use Rattle.taken_trial.specs.TakenAlong.{data_place, instruction_place, secondary_at, index_under, is_part, cleaned_part, address_in, data_place_of, is_dirty_above, gathered_byte, gathered_line, IsDirtyWithParts, IsInRam, IsWrittenBack}
-use Rattle.taken_trial.proofs.TakenAlong.{same_cond, among, among_past, among_is, by_lengths, whole_lines, number_of_part, address_of_part, on_line, index_for, so_far, one_more, none_so_far}
+use Rattle.line_moves.specs.TakenAlong.{data_place, instruction_place, secondary_at, index_under, is_part, cleaned_part, address_in, data_place_of, is_dirty_above, gathered_byte, gathered_line, IsDirtyWithParts, IsInRam, IsWrittenBack}
+use Rattle.line_moves.proofs.TakenAlong.{same_cond, among, among_past, among_is, by_lengths, whole_lines, number_of_part, address_of_part, on_line, index_for, so_far, one_more, none_so_far}
 
 -- ---- numbers
 
@@ -48,14 +48,14 @@ all_parts line group l g le = by_lengths (λ line group. group / line * line ≡
 
 -- ---- lists and lines
 
-inside : (xs : List (Option Line)) (i : ℕ) (l : Line) → get_or xs i None ≡ Some l → i < length xs
+pub inside : (xs : List (Option Line)) (i : ℕ) (l : Line) → get_or xs i None ≡ Some l → i < length xs
 inside xs i l e = elim (cases_lt i (length xs)) [
   | inl lt ↦ lt
   | inr past ↦ absurd (let n : None ≡ Some l = sym (get_or_past xs i None past) ∙ e in cc)
 ]
 
 -- a clean line is marked clean
-same_marked : (l : Line) → l.dirty ≡ false → marked false l ≡ l
+pub same_marked : (l : Line) → l.dirty ≡ false → marked false l ≡ l
 same_marked l e = ap (λ (b : Bool). marked b l) (sym e)
 
 abbrev cleaned : Line → Option Line
@@ -379,3 +379,11 @@ module _ (m : Hier) (index : ℕ) (x : Line) (lines : AreLines m.caches) (has : 
 
   pub written_back : IsWrittenBack index x m (write_back index m)
   written_back = rw stands (backed (parts (gather (secondary_at index) x.pidx) x m) gathered_whole)
+
+pub written_back_at : (m new : Hier) (index : ℕ) → AreLines m.caches → m.caches.shape.sc ≡ true → new ≡ write_back index m
+    → MatchOption (line_of (secondary_at index) m) (new ≡ m) (λ x. IsWrittenBack index x m new)
+written_back_at m new index lines has is = go (line_of (secondary_at index) m) refl
+  where
+    go : (o : Option Line) → line_of (secondary_at index) m ≡ o → MatchOption o (new ≡ m) (λ x. IsWrittenBack index x m new)
+    go None e = is ∙ rw e refl
+    go (Some x) e = rw is (written_back m index x lines has e)

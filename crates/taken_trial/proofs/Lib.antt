@@ -1,2 +1,0 @@
-pub mod TakenAlong
-pub mod WrittenBack

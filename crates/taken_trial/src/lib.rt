@@ -1,2 +1,0 @@
-//! A trial.
-#![tactic(auto)]
