@@ -1,15 +1,13 @@
 -- Out and its halves, place by place.
-use Rattle.std.proofs.Common.{◌≡◌, ◌≢◌, ℕ, zero, suc, ◌+◌, ◌*◌, ◌/◌, ◌%◌, ◌<◌, ◌≤◌, List, [], ◌∷◌, Bool, true, false, cond, if◌then◌else◌, ◌==◌, ◌&&◌, eqb, get_or, set, Option, Some, None, ◌⊎◌, inl, inr, refl, sym, ap, ◌∙◌, arith}
+use Rattle.std.proofs.Common.{◌≡◌, ◌≢◌, ℕ, zero, suc, ◌+◌, ◌*◌, ◌/◌, ◌<◌, ◌≤◌, List, [], ◌∷◌, Bool, true, false, cond, if◌then◌else◌, ◌==◌, ◌&&◌, eqb, get_or, set, Option, Some, None, inl, inr, refl, sym, ap, ◌∙◌, arith}
 use Rattle.std.specs.Prelude.{MatchOption}
-use Rattle.std.proofs.lemmas.Bool.{cases_Bool, cases_eq, cases_lt, cond_both, eq-eqb, ne_eqb}
-use Rattle.std.proofs.lemmas.List.{get_or-set_same, get_or-set_other}
+use Rattle.std.proofs.lemmas.Bool.{cases_eq, cases_lt, cond_both, eq-eqb, ne_eqb}
+use Rattle.std.proofs.lemmas.List.{get_or-set_other}
 use Rattle.r4_shape.specs.Numbers.{Numbers, IsShape, IsLine, IsGroup}
 use Rattle.line_moves.specs.declared.hierarchy.Hier.{Hier}
-use Rattle.line_moves.specs.declared.places.Side.TheVariants.{I, D, S}
-use Rattle.line_moves.specs.declared.places.Place.{Place}
-use Rattle.line_moves.specs.Lines.{AreLines, Line, is_line, holds, line_at}
-use Rattle.line_moves.specs.Moves.{line_of, discard, each_part, parts, discard_part, discard_part_at, discard_parts, discard_parts_line, place_under}
-use Rattle.line_moves.specs.TakenAlong.{data_place, instruction_place, secondary_at, index_under, is_part, without_part, ArePartsDiscarded}
+use Rattle.line_moves.specs.Lines.{AreLines, Line, is_line}
+use Rattle.line_moves.specs.Moves.{line_of, discard, each_part, discard_part, discard_part_at, discard_parts}
+use Rattle.line_moves.specs.TakenAlong.{data_place, instruction_place, secondary_at, index_under, without_part, ArePartsDiscarded}
 
 -- ---- lists of places
 

@@ -1,20 +1,17 @@
 -- The write-back of a secondary line with its data lines, place by place.
-use Rattle.std.proofs.Common.{◌≡◌, ◌≢◌, ℕ, zero, suc, ◌+◌, ◌-◌, ◌*◌, ◌/◌, ◌%◌, ◌<◌, ◌≤◌, List, [], ◌∷◌, map, length, Bool, true, false, cond, if◌then◌else◌, ◌==◌, ◌&&◌, eqb, get_or, set, Option, Some, None, ◌⊎◌, inl, inr, refl, sym, ap, ap₂, subst, ◌∙◌, arith}
+use Rattle.std.proofs.Common.{◌≡◌, ℕ, zero, suc, ◌+◌, ◌-◌, ◌*◌, ◌/◌, ◌%◌, ◌<◌, ◌≤◌, List, map, length, Bool, true, false, cond, ◌==◌, ◌&&◌, eqb, get_or, set, Option, Some, None, inl, inr, refl, sym, ap, ap₂, subst, ◌∙◌, arith}
 use Rattle.std.specs.Prelude.{MatchOption}
 use Rattle.std.specs.List.{range_with_len}
 use Rattle.std.proofs.lemmas.Bool.{cases_Bool, cases_eq, cases_lt, cond_both, eq-eqb, ne_eqb, eqb-true}
 use Rattle.std.proofs.lemmas.List.{get_or-set_same, get_or-set_other, set-set, set-get_or, get_or_past}
 use Rattle.std.proofs.lemmas.List.FromFn.{fill_by_all}
-use Rattle.flat_ram.specs.Bytes.{put_bytes}
 use Rattle.flat_ram.proofs.Replaced.{put_inside, put_before, put_after, length_put}
-use Rattle.r4_shape.specs.Numbers.{Numbers, IsShape, IsLine, IsGroup, places, secondary_places}
+use Rattle.r4_shape.specs.Numbers.{Numbers, IsLine, IsGroup}
 use Rattle.line_moves.specs.declared.hierarchy.Hier.{Hier}
-use Rattle.line_moves.specs.declared.places.Side.TheVariants.{I, D, S}
-use Rattle.line_moves.specs.declared.places.Place.{Place}
-use Rattle.line_moves.specs.Lines.{AreLines, Line, CacheLines, is_line, holds, line_at, marked, written, dirty_of, line_bytes, with_line}
-use Rattle.line_moves.specs.Moves.{line_of, put_within, to_ram, each_part, parts, gather, gather_at, gather_line, back, back_secondary, write_back, write_back_line, place_under}
-use Rattle.line_moves.specs.TakenAlong.{data_place, instruction_place, secondary_at, index_under, is_part, cleaned_part, address_in, data_place_of, is_dirty_above, gathered_byte, gathered_line, IsDirtyWithParts, IsInRam, IsWrittenBack}
-use Rattle.line_moves.proofs.TakenAlong.{same_cond, among, among_past, among_is, by_lengths, whole_lines, number_of_part, address_of_part, on_line, index_for, so_far, one_more, none_so_far}
+use Rattle.line_moves.specs.Lines.{AreLines, Line, is_line, marked, written, dirty_of, line_bytes}
+use Rattle.line_moves.specs.Moves.{line_of, put_within, each_part, parts, gather, gather_at, gather_line, back, write_back}
+use Rattle.line_moves.specs.TakenAlong.{data_place, secondary_at, index_under, cleaned_part, data_place_of, is_dirty_above, gathered_byte, gathered_line, IsDirtyWithParts, IsWrittenBack}
+use Rattle.line_moves.proofs.TakenAlong.{among, among_past, among_is, by_lengths, whole_lines, number_of_part, address_of_part, on_line, index_for, so_far, one_more, none_so_far}
 
 -- ---- numbers
 
@@ -153,9 +150,6 @@ record GatheredSoFar (m : Hier) (index : ℕ) (x : Line) (first c : ℕ) (new : 
   shape : new.caches.shape ≡ m.caches.shape
 
 module _ (m : Hier) (index : ℕ) (x : Line) (lines : AreLines m.caches) (has : m.caches.shape.sc ≡ true) (stands : get_or m.caches.s index None ≡ Some x) where
-  shape : Numbers
-  shape = m.caches.shape
-
   whole_line : length x.bytes ≡ m.caches.shape.group
   whole_line = (lines.lines (secondary_at index) x (rw (← lines.s) (inside m.caches.s index x stands)) stands).bytes
 

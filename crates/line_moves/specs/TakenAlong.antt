@@ -1,9 +1,10 @@
 -- Out and its halves, place by place. The parts of a secondary line are the lines of its addresses in the primary caches, at the indexes
--- that bit 0 of its PIdx chooses; Out takes them along: what the data cache has dirty goes into the secondary line, which goes to RAM where
--- it is dirty, and all of them are discarded.
--- Source: MIPS R4000 Microprocessor User's Manual, 2nd edition (Heinrich), chapter 11, "Virtual Coherency", for PIdx, by which the secondary
--- cache finds the primary lines of its own. Out is this project's own.
-use Rattle.std.specs.Prelude.{◌≡◌, ℕ, ◌+◌, ◌*◌, ◌/◌, ◌%◌, ◌<◌, ◌==◌, ◌&&◌, ◌⊎◌, Bool, true, false, List, map, Option, Some, None, slice_index, slice_set, if◌then◌else◌}
+-- that bit 0 of its PIdx chooses. Out takes them along: what the data cache has dirty goes into the secondary line, which goes to RAM
+-- where it is dirty, and all of them are discarded. The moves are made part after part; here each place, and each byte, is said by what
+-- stood there before.
+-- Source: MIPS R4000 Microprocessor User's Manual, 2nd edition (Heinrich), chapter 11, "Virtual Coherency", for PIdx, by which the
+-- secondary cache finds its lines in the primary caches. Out is this project's own.
+use Rattle.std.specs.Prelude.{◌≡◌, ℕ, ◌+◌, ◌*◌, ◌%◌, ◌<◌, ◌==◌, ◌&&◌, ◌⊎◌, Bool, true, false, map, Option, Some, None, slice_index, slice_set, if◌then◌else◌}
 use Rattle.std.specs.List.{range_with_len}
 use Rattle.r4_shape.specs.Numbers.{Numbers}
 use Rattle.r4_shape.specs.Address.{granule, group_of}
@@ -23,7 +24,7 @@ instruction_place at = record { side = I; index = at }
 abbrev pub secondary_at : ℕ → Place
 secondary_at index = record { side = S; index = index }
 
--- the index of a physical address in a primary cache under a PIdx, the same in both
+-- the index of a physical address under a PIdx, the same in both primary caches
 abbrev pub index_under : Numbers → ℕ → ℕ → ℕ
 index_under shape pidx pa = (place_under D pidx pa shape).index
 
@@ -92,8 +93,8 @@ pub record IsDiscardedWhole (index : ℕ) (x : Line) (old new : Hier) : Type 0 w
   pub ram : new.ram ≡ old.ram
   pub shape : new.caches.shape ≡ old.caches.shape
 
--- RAM got the bytes of a secondary line with its data lines where one of them was dirty, and no other.
-pub record IsInRam (x : Line) (old new : Hier) : Type 0 where
+-- What became of RAM: it has the bytes of the secondary line with its data lines, where one of them was dirty, and else is as it was.
+pub record IsRamAfter (x : Line) (old new : Hier) : Type 0 where
   pub stored : IsDirtyWithParts old x → new.ram ≡ put_within old.ram (x.number * old.caches.shape.group) (gathered_line old x).bytes
   pub kept : ¬ IsDirtyWithParts old x → new.ram ≡ old.ram
 
@@ -102,7 +103,7 @@ pub record IsWrittenBack (index : ℕ) (x : Line) (old new : Hier) : Type 0 wher
   pub d : (at : ℕ) → line_of (data_place at) new ≡ cleaned_part old.caches.shape x at (line_of (data_place at) old)
   pub i : new.caches.i ≡ old.caches.i
   pub s : new.caches.s ≡ slice_set old.caches.s index (Some (gathered_line old x))
-  pub ram : IsInRam x old new
+  pub ram : IsRamAfter x old new
   pub shape : new.caches.shape ≡ old.caches.shape
 
 -- Out: the secondary line that stood at an index was written back with its data lines, and it and its parts were discarded.
@@ -110,5 +111,5 @@ pub record IsOut (index : ℕ) (x : Line) (old new : Hier) : Type 0 where
   pub d : (at : ℕ) → line_of (data_place at) new ≡ without_part old.caches.shape x at (line_of (data_place at) old)
   pub i : (at : ℕ) → line_of (instruction_place at) new ≡ without_part old.caches.shape x at (line_of (instruction_place at) old)
   pub s : new.caches.s ≡ slice_set old.caches.s index None
-  pub ram : IsInRam x old new
+  pub ram : IsRamAfter x old new
   pub shape : new.caches.shape ≡ old.caches.shape
