@@ -1,5 +1,5 @@
 -- The moves on a machine without a secondary cache, in a form of their own: a line goes to RAM and comes from there. Each is the move.
-use Rattle.std.proofs.Common.{◌≡◌, ℕ, ◌*◌, Bool, true, false, cond, if◌then◌else◌, List, Option, Some, None, refl, ap, ◌∙◌, inl, inr}
+use Rattle.std.proofs.Common.{◌≡◌, ℕ, ◌*◌, Bool, false, cond, if◌then◌else◌, List, Option, Some, None, refl, ap, ◌∙◌, inl, inr}
 use Rattle.std.proofs.lemmas.Bool.{cases_Bool, cond_both}
 use Rattle.flat_ram.specs.Bytes.{bytes_at}
 use Rattle.r4_shape.specs.Numbers.{Numbers}
