@@ -7,7 +7,8 @@ invariant_of-result c =
     let is = c.line-line.ensures.shape in
     let placed = placed_is c.args.shape c.prim_bits.result c.line_bits-line_bits.result is
     (rw c.line-line.ensures.is at c.line_bits-line_bits.ensures.narrow) (rw c.line-line.ensures.is at c.line_bits-line_bits.ensures.wide) (rw c.prim-prim.ensures.is at c.prim_bits.ensures.small) in
-    rw (c.in_ok-new.ensures, c.in_ok-new-2.ensures, c.line-line.ensures.is, c.prim-prim.ensures.is) (placed, table_is c.args.shape _ placed.lines, table_is c.args.shape _ placed.lines, is)
+    rw (c.in_ok-new.ensures, c.in_ok-new-2.ensures, c.line-line.ensures.is, c.prim-prim.ensures.is) (placed, table_is c.args.shape _ placed.lines, table_is c.args.shape _ placed.lines, is, counted_is _ _, counted_is _ _)
 
 pub returns-clause-facts : goal.returns-clause-facts
-returns-clause-facts c = rw (c.in_ok-new.ensures, c.in_ok-new-2.ensures) (no_facts_is (grid_of c.args.shape) _ _)
+unfolding facts_of
+returns-clause-facts c = rw (c.in_ok-new.ensures, c.in_ok-new-2.ensures) (no_facts_is (grid_of c.args.shape) _ _ _)
