@@ -11,4 +11,5 @@ pub mod Kept
 pub mod Consistent
 pub mod AnyEvent
 pub mod Settling
+pub mod Answering
 pub mod Stepping

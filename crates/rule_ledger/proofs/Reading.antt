@@ -1,6 +1,6 @@
 -- What a ledger keeps where marks are read, set and cleared, and where a step is counted.
-use Rattle.std.proofs.Common.{◌≡◌, ℕ, ◌+◌, ◌*◌, ◌%◌, ◌<◌, ◌≤◌, Bool, cond, eqb, refl, sym, ap, ap₂, subst, ◌∙◌, arith, inl, inr}
-use Rattle.std.proofs.lemmas.Bool.{cases_eq, eq-eqb, ne_eqb}
+use Rattle.std.proofs.Common.{◌≡◌, ℕ, ◌+◌, ◌*◌, ◌%◌, ◌<◌, ◌≤◌, Bool, false, cond, eqb, ltb, refl, sym, ap, ap₂, subst, ◌∙◌, arith, inl, inr}
+use Rattle.std.proofs.lemmas.Bool.{cases_eq, eq-eqb, ne_eqb, le-ltb, and_right}
 use Rattle.ledger_table.specs.Table.{Table, mark_of, row_stamp}
 use Rattle.ledger_table.proofs.Stamps.{marks_kept, stamps_kept}
 use Rattle.r4_shape.specs.Numbers.{Numbers, IsShape}
@@ -91,6 +91,15 @@ module _ (v : Ledger) where
         → facts_of (record v { instruction_table = u }) ≡ instructions_cleared (at_index (grid_of v.shape).page row) (facts_of v)
     unfolding facts_of
     instructions_flushed cleared = instructions_cleared_is (grid_of v.shape) grid (mark_of v.data_table) (mark_of v.instruction_table) row (mark_of u) cleared
+
+-- no copy is held at a colour that the caches have not
+pub held_past : (v : Ledger) (g c : ℕ) → (grid_of v.shape).colours ≤ c → (facts_of v).held g c ≡ false
+unfolding facts_of
+held_past v g c far = rw (le-ltb c (grid_of v.shape).colours far, and_right (ltb g (grid_of v.shape).whole) false refl) refl
+
+pub iheld_past : (v : Ledger) (g c : ℕ) → (grid_of v.shape).colours ≤ c → (facts_of v).iheld g c ≡ false
+unfolding facts_of
+iheld_past v g c far = rw (le-ltb c (grid_of v.shape).colours far, and_right (ltb g (grid_of v.shape).whole) false refl) refl
 
 -- ---- readings, one after the other
 

@@ -152,6 +152,7 @@ impl Tables {
         requires page { pa % 4096 ≡ va % 4096 }
         ensures mark { let shape = self.old.shape in
             result ≡ data_at (facts_of self.old) (granule shape pa) (colour shape va) }
+        ensures is_shape { IsShape self.old.shape }
         ensures reads { Reads self.old self.new }
     {
         let place = self.place_of_access(pa, va);
@@ -165,6 +166,7 @@ impl Tables {
         requires page { pa % 4096 ≡ va % 4096 }
         ensures mark { let shape = self.old.shape in
             result ≡ instruction_at (facts_of self.old) (granule shape pa) (colour shape va) }
+        ensures is_shape { IsShape self.old.shape }
         ensures reads { Reads self.old self.new }
     {
         let place = self.place_of_access(pa, va);
@@ -355,10 +357,11 @@ impl Tables {
             result ≡ meets grid (at_index grid.page index) (facts_of self.old).dirty }
         ensures reads { Reads self.old self.new }
     {
-        let colour = index >> self.page_bits;
-        let within = index - (colour << self.page_bits);
+        let page_bits = self.page_bits;
+        let colour = index >> page_bits;
+        let within = index - (colour << page_bits);
         for page in 0..PAGES {
-            let at = (page << self.page_bits) + within;
+            let at = (page << page_bits) + within;
             if self.data_mark(at, colour).dirty {
                 return true;
             }

@@ -13,3 +13,6 @@ returns-clause-mark c = rw (c.from_bits.ensures, c.get.ensures.mark, c.place_of_
 
 pub returns-clause-reads : goal.returns-clause-reads
 returns-clause-reads c = rw (← c.self.view_is, c.get.ensures.kept) (record { facts = facts_data_read _ _; shape = refl; steps = refl })
+
+pub returns-clause-is_shape : goal.returns-clause-is_shape
+returns-clause-is_shape c = rw (← c.self.view_is) c.self.invariant.3

@@ -9,7 +9,7 @@ use Rattle.rule_ledger.proofs.tables.Tables.is_settled_load.Goals as goal
 
 pub returns-then-mark-clause-settles : goal.returns-then-mark-clause-settles
 returns-then-mark-clause-settles c = λ consistent e.
-    let is : IsShape c.args.self.now.shape = subst (λ (v : Ledger). IsShape v.shape) c.self.view_is c.self.invariant.3 in
+    let is : IsShape c.args.self.now.shape = c.accessed_data-mark.ensures.is_shape in
     let mark = c.accessed_data-mark.ensures.mark in
     settled_load c.args.self.now consistent _ _ (granule_inside _ is c.args.pa c.requires.ram) (colour_inside _ is c.args.va)
     (sym (ap (λ (m : DataMark). m.held) mark) ∙ c.if-mark.true) (sym (ap (λ (m : DataMark). m.old) mark) ∙ not-true _ e)

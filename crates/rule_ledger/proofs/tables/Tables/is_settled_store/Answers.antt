@@ -8,6 +8,6 @@ use Rattle.rule_ledger.proofs.tables.Tables.is_settled_store.Goals as goal
 
 pub returns-clause-settles : goal.returns-clause-settles
 returns-clause-settles c = λ consistent e.
-    let is : IsShape c.args.self.now.shape = subst (λ (v : Ledger). IsShape v.shape) c.self.view_is c.self.invariant.3 in
+    let is : IsShape c.args.self.now.shape = c.accessed_data.ensures.is_shape in
     settled_store c.args.self.now consistent _ _ (granule_inside _ is c.args.pa c.requires.ram) (colour_inside _ is c.args.va)
     (sym (ap (λ (m : DataMark). m.dirty) c.accessed_data.ensures.mark) ∙ e)

@@ -1,5 +1,6 @@
+use Rattle.rule_ledger.specs.Marks.{facts_of}
 use Rattle.rule_ledger.specs.Cells.{grid_of}
-use Rattle.rule_ledger.proofs.Starting.{placed_is, table_is, no_facts_is}
+use Rattle.rule_ledger.proofs.Starting.{placed_is, table_is, counted_is, no_facts_is}
 use Rattle.rule_ledger.proofs.tables.Tables.new.Goals as goal
 
 pub invariant_of-result : goal.invariant_of-result
