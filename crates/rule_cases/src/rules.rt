@@ -4,6 +4,7 @@
 //!   broken, or `-`. An event is `load VA PA`, `store VA PA` or `fetch VA PA` through the caches, `load-past PA`, `store-past PA`
 //!   or `fetch-past PA` past them, `beat-in PA`, `beat-out PA`, or `cache CODE VA PA TAGLO`; CODE is decimal, the other numbers
 //!   are hexadecimal, and a TAGLO that is left out is 0.
+//! - `touches SHAPE COUNT; EVENT` is how often the ledger's tables were touched when the event was held against the rules so many times.
 //! - `judge SHAPE "LINES"` is the verdict on a trace, with the line of the event that it names.
 
 ghost use Rattle.std.specs.Prelude.{◌≡◌, ◌<◌, ◌≤◌, ◌+◌, false, IfSome};
@@ -26,6 +27,7 @@ pub fn put_answer(
 ) -> Result<bool, AllocError> {
     match verb {
         "rules" => put_rules(alloc, arguments, out)?,
+        "touches" => put_touches(alloc, arguments, out)?,
         "judge" => put_judged(alloc, arguments, out)?,
         _ => return Ok(false),
     }
@@ -167,6 +169,32 @@ fn put_rules(alloc: Global, arguments: &str, out: &mut String) -> Result<(), All
         return out.push_str("?");
     };
     put_steps(PcLedger::new(alloc, shape)?, events, out)
+}
+
+// Holds an event against the rules so many times.
+fn repeat(ledger: &mut PcLedger, event: &Event, times: u32)
+    requires steps { ledger.old.steps ≡ 0 }
+    requires grammar { IsEvent event.now }
+{
+    for _time in 0..times {
+        let _breach = ledger.step(event);
+    }
+}
+
+fn put_touches(alloc: Global, arguments: &str, out: &mut String) -> Result<(), AllocError> {
+    let (words, event) = arguments.split_once(';').unwrap_or((arguments, ""));
+    let Some(shape) = shape_of(word_at(words, 0)) else {
+        return out.push_str("?");
+    };
+    let Some(event) = event_of(event.trim()) else {
+        return out.push_str("?");
+    };
+    let Ok(times) = word_at(words, 1).parse::<u32>() else {
+        return out.push_str("?");
+    };
+    let mut ledger = PcLedger::new(alloc, shape)?;
+    repeat(&mut ledger, &event, times);
+    write!(out, "{}", ledger.touches())
 }
 
 // Shows a judge the events of a trace.

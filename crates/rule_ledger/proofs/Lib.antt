@@ -2,6 +2,7 @@ pub mod Meeting
 pub mod Placing
 pub mod Grids
 pub mod Replacing
+pub mod Reading
 pub mod Ageing
 pub mod Rows
 pub mod Starting
@@ -9,5 +10,6 @@ pub mod Indexes
 pub mod Kept
 pub mod Consistent
 pub mod AnyEvent
-pub mod Settled
+pub mod Settling
+pub mod Answering
 pub mod Stepping

@@ -1,10 +1,9 @@
 -- The cells of a grid and their places in a table: no two cells have one place, a place's rest by the rows is the primary
 -- index, and what a set of flagged cells becomes where a mark is replaced or a row is cleared.
-use Rattle.std.proofs.Common.{◌≡◌, ℕ, ◌+◌, ◌*◌, ◌/◌, ◌%◌, ◌<◌, Bool, false, cond, List, length, get_or, set, arith, refl, sym, ap, ap₂, ◌∙◌, inl, inr, eqb, ltb, ◌&&◌, not}
+use Rattle.std.proofs.Common.{◌≡◌, ℕ, ◌+◌, ◌*◌, ◌/◌, ◌%◌, ◌<◌, Bool, false, cond, ◌≢◌, arith, refl, sym, ap, ap₂, ◌∙◌, inl, inr, eqb, ltb, ◌&&◌, not}
 use Rattle.std.proofs.Math.Path.{fun_ext}
 use Rattle.std.proofs.lemmas.Nat.{div-mul-add, mod-mul-add, div_below, div-add-mod', mod_below, mul-add-lt}
-use Rattle.std.proofs.lemmas.Bool.{cases_Bool, and_parts, and_from, eqb-true, eq-eqb, ltb-true, lt-ltb, both_ways, and_right}
-use Rattle.std.proofs.lemmas.List.{get_or-set_same, get_or-set_other}
+use Rattle.std.proofs.lemmas.Bool.{cases_Bool, and_parts, and_from, eqb-true, eq-eqb, ne_eqb, ltb-true, lt-ltb, both_ways, and_right}
 use Rattle.rule_ledger.specs.Facts.{cell, without, at_index, put}
 use Rattle.rule_ledger.specs.Cells.{Grid}
 use Rattle.rule_ledger.specs.Marks.{place_of, is_inside, flagged}
@@ -46,36 +45,43 @@ module _ (grid : Grid) (is : IsGrid grid) where
   row_of_place g c cl = mod-mul-add (g / grid.page) (grid.page * grid.colours) (c * grid.page + g % grid.page) (within g c cl)
 
   -- the flag at a cell
-  pub flagged_at : (flag : ℕ → Bool) (marks : List ℕ) (g c : ℕ) → g < grid.whole → c < grid.colours → flagged flag grid marks g c ≡ flag (get_or marks (place_of grid g c) 0)
-  flagged_at flag marks g c gl cl = rw (lt-ltb g grid.whole gl, lt-ltb c grid.colours cl) refl
+  pub flagged_at : (flag : ℕ → Bool) (mark : ℕ → ℕ) (g c : ℕ) → g < grid.whole → c < grid.colours → flagged flag grid mark g c ≡ flag (mark (place_of grid g c))
+  flagged_at flag mark g c gl cl = rw (lt-ltb g grid.whole gl, lt-ltb c grid.colours cl) refl
 
   -- one mark is replaced
-  pub flagged-set : (flag : ℕ → Bool) (marks : List ℕ) (g c x : ℕ) → length marks ≡ grid.whole * grid.colours → g < grid.whole → c < grid.colours
-      → flagged flag grid (set marks (place_of grid g c) x) ≡ put (cell g c) (flag x) (flagged flag grid marks)
-  flagged-set flag marks g c x len gl cl = fun_ext (λ h. fun_ext (λ d. at h d))
+  pub flagged-set : (flag : ℕ → Bool) (mark mark' : ℕ → ℕ) (g c x : ℕ) → g < grid.whole → c < grid.colours
+      → ((k : ℕ) → k < grid.whole * grid.colours → mark' k ≡ cond (eqb k (place_of grid g c)) x (mark k))
+      → flagged flag grid mark' ≡ put (cell g c) (flag x) (flagged flag grid mark)
+  flagged-set flag mark mark' g c x gl cl replaced = fun_ext (λ h. fun_ext (λ d. at h d))
     where
-      at : (h d : ℕ) → flagged flag grid (set marks (place_of grid g c) x) h d ≡ put (cell g c) (flag x) (flagged flag grid marks) h d
+      at : (h d : ℕ) → flagged flag grid mark' h d ≡ put (cell g c) (flag x) (flagged flag grid mark) h d
       at h d = elim (cases_Bool (eqb h g && eqb d c)) [
         | inl e ↦ (let p = and_parts (eqb h g) (eqb d c) e in
-            rw (e, eqb-true h g p.0, eqb-true d c p.1, get_or-set_same marks (place_of grid g c) x 0 (rw len (place_inside g c gl cl)), lt-ltb g grid.whole gl, lt-ltb c grid.colours cl) refl)
+            let here = replaced (place_of grid g c) (place_inside g c gl cl) in
+            rw (e, eqb-true h g p.0, eqb-true d c p.1, here, eq-eqb (place_of grid g c) (place_of grid g c) refl, lt-ltb g grid.whole gl, lt-ltb c grid.colours cl) refl)
         | inr e ↦ rw e (elim (cases_Bool (is_inside grid h d)) [
           | inl t ↦ (let p = and_parts (ltb h grid.whole) (ltb d grid.colours) t in
-              rw (get_or-set_other marks (place_of grid g c) (place_of grid h d) x 0 (λ q. (let s = same_cell h d g c (ltb-true d grid.colours p.1) cl q in
-              both_ways (eqb h g && eqb d c) e (and_from (eqb h g) (eqb d c) (eq-eqb h g s.0) (eq-eqb d c s.1))))) refl)
+              let hl = ltb-true h grid.whole p.0 in
+              let dl = ltb-true d grid.colours p.1 in
+              let apart : place_of grid h d ≢ place_of grid g c = λ q. (let s = same_cell h d g c dl cl q in
+              both_ways (eqb h g && eqb d c) e (and_from (eqb h g) (eqb d c) (eq-eqb h g s.0) (eq-eqb d c s.1))) in
+              rw (replaced (place_of grid h d) (place_inside h d hl dl), ne_eqb (place_of grid h d) (place_of grid g c) apart) refl)
           | inr f ↦ rw f refl
         ])
       ]
 
   -- a row is cleared
-  pub flagged-cleared : (flag : ℕ → Bool) (marks marks' : List ℕ) (row : ℕ) → flag 0 ≡ false
-      → ((k : ℕ) → get_or marks' k 0 ≡ cond (eqb (k % (grid.page * grid.colours)) row) 0 (get_or marks k 0))
-      → flagged flag grid marks' ≡ without (at_index grid.page row) (flagged flag grid marks)
-  flagged-cleared flag marks marks' row none cleared = fun_ext (λ g. fun_ext (λ c. at g c))
+  pub flagged-cleared : (flag : ℕ → Bool) (mark mark' : ℕ → ℕ) (row : ℕ) → flag 0 ≡ false
+      → ((k : ℕ) → k < grid.whole * grid.colours → mark' k ≡ cond (eqb (k % (grid.page * grid.colours)) row) 0 (mark k))
+      → flagged flag grid mark' ≡ without (at_index grid.page row) (flagged flag grid mark)
+  flagged-cleared flag mark mark' row none cleared = fun_ext (λ g. fun_ext (λ c. at g c))
     where
-      at : (g c : ℕ) → flagged flag grid marks' g c ≡ without (at_index grid.page row) (flagged flag grid marks) g c
+      at : (g c : ℕ) → flagged flag grid mark' g c ≡ without (at_index grid.page row) (flagged flag grid mark) g c
       at g c = elim (cases_Bool (is_inside grid g c)) [
         | inl t ↦ (let p = and_parts (ltb g grid.whole) (ltb c grid.colours) t in
-            rw (t, cleared (place_of grid g c), row_of_place g c (ltb-true c grid.colours p.1))
+            let gl = ltb-true g grid.whole p.0 in
+            let cl = ltb-true c grid.colours p.1 in
+            rw (t, cleared (place_of grid g c) (place_inside g c gl cl), row_of_place g c cl)
             (elim (cases_Bool (eqb (c * grid.page + g % grid.page) row)) [ inl a ↦ rw a none | inr a ↦ rw a refl ]))
         | inr f ↦ rw (f, and_right (not (eqb (c * grid.page + g % grid.page) row)) false refl) refl
       ]

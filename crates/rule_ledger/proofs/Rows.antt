@@ -9,7 +9,7 @@ use Rattle.access_trace.specs.declared.event.EventKind.TheVariants.{Fetch, Load,
 use Rattle.access_trace.specs.declared.event.Event.{Event}
 use Rattle.r4_shape.specs.Numbers.{Numbers}
 use Rattle.r4_shape.specs.Address.{granule, colour}
-use Rattle.rule_ledger.specs.Events.{where_in_ram, access_row, beat_granules, row_by}
+use Rattle.rule_ledger.specs.Events.{where_in_ram, access_row, beat_granules, row_by, flushed_by}
 use Rattle.access_trace.specs.declared.event.Breach.TheVariants.{Old, Owed, Lost}
 use Rattle.rule_ledger.specs.declared.marks.DataMark.{DataMark}
 use Rattle.rule_ledger.specs.declared.marks.InstructionMark.{InstructionMark}
@@ -157,10 +157,6 @@ module _ (k : Facts) (g c : ℕ) where
           let old = put_same k.old g c in
           λ i. record { held = held i; dirty = dirty i; old = old i; iheld = k.iheld; iold = k.iold }
 
--- a row that says nothing
-pub follows_harmless : (v : Ledger) → Follows harmless v v None
-follows_harmless v = record { breach = rw (meets_nowhere (grid_of v.shape) (facts_of v).old) refl; facts = refl; stays = tt; shape = refl; steps = refl }
-
 -- the row of an event that is no operation
 pub row_of_access : (kind : EventKind) (shape : Numbers) (event : Event) → (kind ≡ Cache → ⊥)
     → where_in_ram event.pa (access_row kind event.cached (granule shape event.pa) (colour shape event.va) (beat_granules shape)) ≡ row_by kind shape event
@@ -170,3 +166,12 @@ row_of_access Store shape event other = refl
 row_of_access BeatIn shape event other = refl
 row_of_access BeatOut shape event other = refl
 row_of_access Cache shape event other = absurd (other refl)
+
+-- no event but an operation throws the lines of an index away
+pub no_flush : (kind : EventKind) (event : Event) → (kind ≡ Cache → ⊥) → flushed_by kind event ≡ true → ⊥
+no_flush Fetch event other e = cc
+no_flush Load event other e = cc
+no_flush Store event other e = cc
+no_flush BeatIn event other e = cc
+no_flush BeatOut event other e = cc
+no_flush Cache event other e = other refl

@@ -1,13 +1,13 @@
 -- A ledger as it is made: its cells are placed as its shape wants, and there is no fact.
-use Rattle.std.proofs.Common.{◌&&◌, ◌≡◌, ℕ, ◌-◌, ◌*◌, ◌/◌, Bool, false, get_or, replicate, refl, ap, ◌∙◌, inl, inr, arith}
+use Rattle.std.proofs.Common.{◌&&◌, ◌≡◌, ℕ, ◌-◌, ◌*◌, ◌/◌, Bool, false, refl, ap, ◌∙◌, inl, inr, arith}
 use Rattle.std.proofs.Math.Path.{fun_ext}
-use Rattle.std.proofs.lemmas.Bool.{cases_lt, and_right}
-use Rattle.std.proofs.lemmas.List.{get_or-replicate, get_or_past, length-replicate}
-use Rattle.ledger_table.specs.Table.{no_marks}
+use Rattle.std.proofs.lemmas.Bool.{and_right}
+use Rattle.ledger_table.specs.Table.{no_marks, mark_of}
+use Rattle.ledger_table.proofs.Stamps.{no_mark, no_stamp}
 use Rattle.r4_shape.specs.Numbers.{Numbers, IsShape}
 use Rattle.rule_ledger.specs.Facts.{nowhere, no_facts}
 use Rattle.rule_ledger.specs.Cells.{Grid, grid_of}
-use Rattle.rule_ledger.specs.Kept.{ArePlaced, IsTableOf}
+use Rattle.rule_ledger.specs.Kept.{ArePlaced, IsTableOf, IsCounted}
 use Rattle.rule_ledger.specs.Marks.{place_of, is_inside, flagged, said_by, has_held, has_dirty, has_old, has_iheld, has_iold}
 
 pub placed_is : (shape : Numbers) (prim_bits line_bits : ℕ) → IsShape shape → (shape.line ≡ 16 → line_bits ≡ 4) → (shape.line ≡ 32 → line_bits ≡ 5) → (shape.prim ≡ 8192 → prim_bits ≡ 13)
@@ -61,25 +61,21 @@ placed_is shape prim_bits line_bits is narrow wide small = elim is.line [
     c : prim_bits ≡ 13
     c = small is.prim
 
-no_mark : (n k : ℕ) → get_or (no_marks n) k 0 ≡ 0
-unfolding no_marks
-no_mark n k = elim (cases_lt k n) [
-  | inl lt ↦ get_or-replicate n k 0 0 lt
-  | inr ge ↦ get_or_past (replicate n 0) k 0 (rw length-replicate ge)
-]
+flagged_nowhere : (flag : ℕ → Bool) (grid : Grid) (cells rows : ℕ) → flag 0 ≡ false → flagged flag grid (mark_of (no_marks cells rows)) ≡ nowhere
+flagged_nowhere flag grid cells rows none =
+    fun_ext (λ g. fun_ext (λ c. ap (λ m. is_inside grid g c && flag m) (no_mark cells rows (place_of grid g c)) ∙ and_right (is_inside grid g c) (flag 0) none))
 
-flagged_nowhere : (flag : ℕ → Bool) (grid : Grid) (n : ℕ) → flag 0 ≡ false → flagged flag grid (no_marks n) ≡ nowhere
-flagged_nowhere flag grid n none = fun_ext (λ g. fun_ext (λ c. ap (λ m. is_inside grid g c && flag m) (no_mark n (place_of grid g c)) ∙ and_right (is_inside grid g c) (flag 0) none))
-
-pub no_facts_is : (grid : Grid) (n m : ℕ) → said_by grid (no_marks n) (no_marks m) ≡ no_facts
-no_facts_is grid n m =
-    let held = flagged_nowhere has_held grid n refl in
-    let dirty = flagged_nowhere has_dirty grid n refl in
-    let old = flagged_nowhere has_old grid n refl in
-    let iheld = flagged_nowhere has_iheld grid m refl in
-    let iold = flagged_nowhere has_iold grid m refl in
+pub no_facts_is : (grid : Grid) (n m rows : ℕ) → said_by grid (mark_of (no_marks n rows)) (mark_of (no_marks m rows)) ≡ no_facts
+no_facts_is grid n m rows =
+    let held = flagged_nowhere has_held grid n rows refl in
+    let dirty = flagged_nowhere has_dirty grid n rows refl in
+    let old = flagged_nowhere has_old grid n rows refl in
+    let iheld = flagged_nowhere has_iheld grid m rows refl in
+    let iold = flagged_nowhere has_iold grid m rows refl in
     λ i. record { held = held i; dirty = dirty i; old = old i; iheld = iheld i; iold = iold i }
 
-pub table_is : (shape : Numbers) (rows : ℕ) → rows ≡ (grid_of shape).page * (grid_of shape).colours → IsTableOf shape (record { rows = rows; marks = no_marks ((grid_of shape).whole * (grid_of shape).colours) })
-unfolding no_marks
-table_is shape rows e = record { rows = e; len = length-replicate _ 0 }
+pub table_is : (shape : Numbers) (rows : ℕ) → rows ≡ (grid_of shape).page * (grid_of shape).colours → IsTableOf shape (no_marks ((grid_of shape).whole * (grid_of shape).colours) rows)
+table_is shape rows e = record { rows = e; cells = refl }
+
+pub counted_is : (cells rows : ℕ) → IsCounted 0 (no_marks cells rows)
+counted_is cells rows = record { stamps = λ row. rw (no_stamp cells rows row) (omega arith) }

@@ -1,5 +1,5 @@
--- What a ledger keeps over a step.
-use Rattle.std.proofs.Common.{ℕ, Option, sym, ap, subst, ◌∙◌}
+-- What a ledger keeps over a step, and over a reading.
+use Rattle.std.proofs.Common.{◌≡◌, Bool, true, Option, sym, ap, subst, ◌∙◌}
 use Rattle.access_trace.specs.declared.event.Breach.{Breach}
 use Rattle.access_trace.specs.declared.event.Event.{Event}
 use Rattle.r4_shape.specs.Numbers.{Numbers, IsShape}
@@ -12,14 +12,16 @@ use Rattle.rule_ledger.specs.Rules.{after}
 use Rattle.rule_ledger.specs.Steps.{Follows}
 use Rattle.rule_ledger.proofs.AnyEvent.{consistent_after}
 
-pub kept_after : (v w : Ledger) (event : Event) (answer : Option Breach) → IsLedger v → Follows (row_of v.shape event) v w answer → IsLedger w
-kept_after v w event answer is follows = record {
-  shape = subst (λ (s : Numbers). IsShape s) (sym follows.shape) is.shape;
-  facts = subst (λ (s : Numbers). IsConsistent (grid_of s) (facts_of w)) (sym follows.shape)
-      (subst (λ (k : Facts). IsConsistent (grid_of v.shape) k)
-      (sym (follows.facts ∙ ap (λ (a : Option Breach). after a (facts_of v) (row_of v.shape event)) follows.breach)) (consistent_after v.shape is.shape (facts_of v) is.facts event));
+pub kept_facts : (b : Bool) (v w : Ledger) → w.shape ≡ v.shape → facts_of w ≡ facts_of v → IsLedger b v → IsLedger b w
+kept_facts b v w shape facts is = record {
+  shape = subst (λ (s : Numbers). IsShape s) (sym shape) is.shape;
+  facts = λ e. subst (λ (s : Numbers). IsConsistent (grid_of s) (facts_of w)) (sym shape) (subst (λ (k : Facts). IsConsistent (grid_of v.shape) k) (sym facts) (is.facts e));
 }
 
--- a step is counted
-pub counted : (v : Ledger) (steps : ℕ) → IsLedger v → IsLedger (record v { steps = steps })
-counted v steps is = record { shape = is.shape; facts = is.facts }
+pub kept_after : (b : Bool) (v w : Ledger) (event : Event) (answer : Option Breach) → IsLedger b v → Follows (row_of v.shape event) v w answer → IsLedger b w
+kept_after b v w event answer is follows = record {
+  shape = subst (λ (s : Numbers). IsShape s) (sym follows.shape) is.shape;
+  facts = λ e. subst (λ (s : Numbers). IsConsistent (grid_of s) (facts_of w)) (sym follows.shape)
+      (subst (λ (k : Facts). IsConsistent (grid_of v.shape) k)
+      (sym (follows.facts ∙ ap (λ (a : Option Breach). after a (facts_of v) (row_of v.shape event)) follows.breach)) (consistent_after v.shape is.shape (facts_of v) (is.facts e) event));
+}

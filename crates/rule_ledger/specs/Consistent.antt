@@ -1,6 +1,6 @@
--- What holds of the facts of each ledger, since every row of the table of rules keeps it.
+-- What holds of the facts of a ledger that began without a fact, since every row of the table of rules keeps it.
 -- Source: this project's own.
-use Rattle.std.specs.Prelude.{ℕ, ◌≡◌, ◌≢◌, ◌<◌, true, false}
+use Rattle.std.specs.Prelude.{ℕ, ◌≡◌, ◌≢◌, ◌<◌, Bool, true, false}
 use Rattle.r4_shape.specs.Numbers.{IsShape}
 use Rattle.rule_ledger.specs.Facts.{Facts}
 use Rattle.rule_ledger.specs.Cells.{Grid, grid_of}
@@ -18,7 +18,8 @@ pub record IsConsistent (grid : Grid) (k : Facts) : Type 0 where
   pub others_old : (g c d : ℕ) → k.dirty g c ≡ true → c ≢ d → k.held g d ≡ true → k.old g d ≡ true
   pub instructions_old : (g c d : ℕ) → k.dirty g c ≡ true → k.iheld g d ≡ true → k.iold g d ≡ true
 
--- What each ledger keeps.
-pub record IsLedger (ledger : Ledger) : Type 0 where
+-- What each ledger keeps: its marks are the marks of a shape, and any of them can be. Where all that it has came from a reset by steps
+-- alone, its facts are consistent.
+pub record IsLedger (from_reset : Bool) (ledger : Ledger) : Type 0 where
   pub shape : IsShape ledger.shape
-  pub facts : IsConsistent (grid_of ledger.shape) (facts_of ledger)
+  pub facts : from_reset ≡ true → IsConsistent (grid_of ledger.shape) (facts_of ledger)

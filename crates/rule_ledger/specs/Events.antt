@@ -16,7 +16,7 @@ use Rattle.rule_ledger.specs.declared.operations.Operation.{Operation}
 use Rattle.rule_ledger.specs.declared.operations.Operation.TheVariants.{Index, Hit, Forge, Peek, Nothing}
 use Rattle.rule_ledger.specs.Facts.{Cells, Facts, cell, granules, at_index}
 use Rattle.rule_ledger.specs.Cells.{grid_of}
-use Rattle.rule_ledger.specs.Operations.{operation_of}
+use Rattle.rule_ledger.specs.Operations.{operation_of, is_flush}
 use Rattle.rule_ledger.specs.Rules.{Row, harmless, first_breach, after, cached_load, cached_store, cached_fetch, read_past, write_past, invalidate_i, writeback_invalidate_d, store_tag_d, hit_invalidate_d, fill_i, hit_writeback_d, forges, peeks}
 
 -- what is outside RAM breaks no rule and changes nothing
@@ -75,6 +75,14 @@ row_by kind shape event =
 
 abbrev pub row_of : Numbers → Event → Row
 row_of shape event = row_by event.kind shape event
+
+-- whether an event throws the lines of an index away whatever the facts are
+abbrev pub flushed_by : EventKind → Event → Bool
+flushed_by Cache event = is_flush (operation_of event.size event.value)
+flushed_by kind event = false
+
+abbrev pub is_index_flush : Event → Bool
+is_index_flush event = flushed_by event.kind event
 
 -- the first rule that an event breaks, and the facts after an event that was answered so
 abbrev pub breach_of : Numbers → Facts → Event → Option Breach

@@ -1,14 +1,18 @@
 -- What a ledger keeps: the powers of two by which its shape places the cells, and a mark for each of them.
 -- Source: this project's own.
-use Rattle.std.specs.Prelude.{◌≡◌, ℕ, ◌*◌, ◌^◌, ◌≤◌, ◌<◌, length}
-use Rattle.ledger_table.specs.Table.{Table}
+use Rattle.std.specs.Prelude.{◌≡◌, ℕ, ◌*◌, ◌^◌, ◌≤◌, ◌<◌}
+use Rattle.ledger_table.specs.Table.{Table, row_stamp}
 use Rattle.r4_shape.specs.Numbers.{Numbers, places}
 use Rattle.rule_ledger.specs.Cells.{grid_of}
 
 -- A table with a mark for each cell of a shape, in as many rows as a primary cache has lines.
 pub record IsTableOf (shape : Numbers) (table : Table) : Type 0 where
   pub rows : table.rows ≡ (grid_of shape).page * (grid_of shape).colours
-  pub len : length table.marks ≡ (grid_of shape).whole * (grid_of shape).colours
+  pub cells : table.cells ≡ (grid_of shape).whole * (grid_of shape).colours
+
+-- No row of a table was cleared more often than there were steps.
+pub record IsCounted (steps : ℕ) (table : Table) : Type 0 where
+  pub stamps : (row : ℕ) → row_stamp table row ≤ steps
 
 -- The logarithms of the bytes of a primary cache, of a line of it and of the granules of a page, the number of the colours, and
 -- that of the lines of a primary cache.

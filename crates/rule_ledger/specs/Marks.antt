@@ -1,15 +1,16 @@
 -- The marks in which a ledger keeps its facts: a cell of a table has what may be so of a granule at a colour.
 -- Source: this project's own.
-use Rattle.std.specs.Prelude.{◌≡◌, ℕ, ◌+◌, ◌*◌, ◌/◌, ◌%◌, ◌==◌, ◌&&◌, Bool, List, length, slice_index, nat_lt}
+use Rattle.std.specs.Prelude.{ℕ, ◌+◌, ◌-◌, ◌*◌, ◌/◌, ◌%◌, ◌^◌, ◌==◌, ◌&&◌, Bool, min, nat_lt}
+use Rattle.ledger_table.specs.Table.{Table, mark_of}
 use Rattle.r4_shape.specs.Numbers.{Numbers}
 use Rattle.rule_ledger.specs.Facts.{Facts, Cells}
 use Rattle.rule_ledger.specs.Cells.{Grid, grid_of}
 
--- The ledger of a machine of a shape: the marks of D and of I, and the number of the steps without a breach so far.
+-- The ledger of a machine of a shape: the tables of the marks of D and of I, and the number of the steps without a breach so far.
 pub record Ledger : Type 0 where
   pub shape : Numbers
-  pub data_marks : List ℕ
-  pub instruction_marks : List ℕ
+  pub data_table : Table
+  pub instruction_table : Table
   pub steps : ℕ
 
 -- The place of a cell in its table. The granules of a page have as many places together as a primary cache has lines, and the
@@ -37,12 +38,12 @@ has_iheld mark = (mark / 8 % 2) == 1
 abbrev pub has_iold : ℕ → Bool
 has_iold mark = (mark / 16 % 2) == 1
 
--- the cells of a grid whose marks have a flag
-abbrev pub flagged : (ℕ → Bool) → Grid → List ℕ → Cells
-flagged flag grid marks granule colour = is_inside grid granule colour && flag (slice_index marks (place_of grid granule colour))
+-- the cells of a grid whose marks, which are those of their places, have a flag
+abbrev pub flagged : (ℕ → Bool) → Grid → (ℕ → ℕ) → Cells
+flagged flag grid mark granule colour = is_inside grid granule colour && flag (mark (place_of grid granule colour))
 
 -- what the marks of D and of I say
-abbrev pub said_by : Grid → List ℕ → List ℕ → Facts
+abbrev pub said_by : Grid → (ℕ → ℕ) → (ℕ → ℕ) → Facts
 said_by grid d i = record {
   held = flagged has_held grid d;
   dirty = flagged has_dirty grid d;
@@ -51,9 +52,9 @@ said_by grid d i = record {
   iold = flagged has_iold grid i;
 }
 
-abbrev pub facts_of : Ledger → Facts
-facts_of ledger = said_by (grid_of ledger.shape) ledger.data_marks ledger.instruction_marks
+unfoldable pub facts_of : Ledger → Facts
+facts_of ledger = said_by (grid_of ledger.shape) (mark_of ledger.data_table) (mark_of ledger.instruction_table)
 
--- there is a mark for each cell of the grid
-pub record IsWhole (grid : Grid) (marks : List ℕ) : Type 0 where
-  pub len : length marks ≡ grid.whole * grid.colours
+-- how often a number of the tables was read or written
+abbrev pub touches_of : Ledger → ℕ
+touches_of ledger = min (ledger.data_table.counted.touches + ledger.instruction_table.counted.touches) (2 ^ 64 - 1)

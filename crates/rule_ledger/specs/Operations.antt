@@ -2,7 +2,7 @@
 -- Source: MIPS R4000 Microprocessor User's Manual (Heinrich, 2nd edition), appendix A, CACHE: bits 20:18 of the instruction
 -- have the operation, bits 17:16 the cache, 0 the primary instruction cache and 1 the primary data cache; chapter 11 for TagLo.
 -- Which of them are Forge and Peek is this project's own.
-use Rattle.std.specs.Prelude.{ℕ, ◌+◌, ◌*◌, ◌/◌, ◌%◌, ◌^◌, ◌==◌, not, Bool, if◌then◌else◌}
+use Rattle.std.specs.Prelude.{ℕ, ◌+◌, ◌*◌, ◌/◌, ◌%◌, ◌^◌, ◌==◌, not, Bool, true, false, if◌then◌else◌}
 use Rattle.rule_ledger.specs.declared.operations.IndexOperation.{IndexOperation}
 use Rattle.rule_ledger.specs.declared.operations.IndexOperation.TheVariants.{InvalidateI, WritebackInvalidateD, StoreTagD}
 use Rattle.rule_ledger.specs.declared.operations.HitOperation.TheVariants.{HitInvalidateI, HitInvalidateD, FillI, HitWritebackInvalidateD, HitWritebackD}
@@ -42,3 +42,16 @@ operation_of code tag_lo =
     else if code == on_i 6 then Forge
     else if code == on_d 6 then Hit HitWritebackD
     else Nothing
+
+-- The operations on an index that no fact can forbid: a ledger need not look at the cells of the index.
+abbrev pub flushes : IndexOperation → Bool
+flushes InvalidateI = true
+flushes WritebackInvalidateD = true
+flushes StoreTagD = false
+
+abbrev pub is_flush : Operation → Bool
+is_flush (Index operation) = flushes operation
+is_flush (Hit operation) = false
+is_flush Forge = false
+is_flush Peek = false
+is_flush Nothing = false

@@ -8,12 +8,13 @@
 //! - `places`: where a cell stands in a table.
 //! - `tables`: the marks of a ledger, their tests and their changes.
 //! - `rules`: the rows of the table of rules, a method each.
+//! - `settled`: where one mark tells that an event breaks no rule and changes no fact.
 //! - `steps`: an event is held against its row.
 //! - `ledger`: the ledger, whose facts are those that the rules leave, and a step of it.
 //!
 //! The table stands in specs/Rules.antt and specs/Events.antt: each row says which copies break a rule and which facts change. What
-//! the facts are stands in specs/Facts.antt, how marks give them in specs/Marks.antt, and what the facts of each ledger keep in
-//! specs/Consistent.antt.
+//! the facts are stands in specs/Facts.antt, how marks give them in specs/Marks.antt, and what the facts of a ledger keep that
+//! began without one in specs/Consistent.antt.
 #![tactic(auto)]
 
 mod ledger;
@@ -21,6 +22,7 @@ mod marks;
 mod operations;
 mod places;
 mod rules;
+mod settled;
 mod steps;
 mod tables;
 

@@ -1,15 +1,14 @@
 //! An event is held against its row of the table of rules.
 
-ghost use Rattle.std.specs.Prelude.{◌≡◌, ◌<◌, ◌≤◌, ◌+◌, ◌%◌, OnSome, IfNone};
-ghost use Rattle.access_trace.specs.Grammar.{IsEvent, is_beat};
+ghost use Rattle.std.specs.Prelude.{◌≡◌, ◌<◌, ◌≤◌, ◌+◌, true};
+ghost use Rattle.access_trace.specs.Grammar.{IsEvent};
 ghost use Rattle.r4_shape.specs.Address.{colour, granule, index};
 ghost use Rattle.r4_shape.specs.Numbers.{colours, places};
 ghost use Rattle.rule_ledger.specs.Cells.{grid_of};
-ghost use Rattle.rule_ledger.specs.Events.{access_row, beat_granules, breach_of, facts_after, hit_row, index_row, operation_row, row_of, where_in_ram};
+ghost use Rattle.rule_ledger.specs.Events.{access_row, beat_granules, hit_row, index_row, is_index_flush, operation_row, row_of, where_in_ram};
 ghost use Rattle.rule_ledger.specs.Facts.{at_index};
-ghost use Rattle.rule_ledger.specs.Marks.{facts_of};
-ghost use Rattle.rule_ledger.specs.Operations.{operation_of};
-ghost use Rattle.rule_ledger.specs.Rules as rule;
+ghost use Rattle.rule_ledger.specs.Marks.{touches_of};
+ghost use Rattle.rule_ledger.specs.Operations.{flushes, is_flush, operation_of};
 ghost use Rattle.rule_ledger.specs.Steps.{Follows};
 
 use crate::operations::{HitOperation, IndexOperation, Operation};
@@ -19,6 +18,7 @@ use access_trace::{Breach, Event, EventKind};
 impl Tables {
     // An access through the caches, or past them.
     fn access(&mut self, event: &Event) -> Option<Breach>
+        requires steps { self.old.steps < 18446744073709551615 }
         requires ram { event.now.pa < 8388608 }
         requires grammar { IsEvent event.now }
         ensures { let shape = self.old.shape in
@@ -42,14 +42,16 @@ impl Tables {
                 let count = self.beat_granules(event.pa);
                 self.write_past(granule, count)
             }
-            EventKind::Cache => None,
+            EventKind::Cache => self.pass(),
         }
     }
 
     // An operation on an index.
     fn operate_at(&mut self, operation: IndexOperation, index: u32) -> Option<Breach>
-        requires { index < places self.old.shape }
-        ensures { Follows (index_row operation (at_index (grid_of self.old.shape).page index)) self.old self.new result }
+        requires steps { self.old.steps < 18446744073709551615 }
+        requires index { index < places self.old.shape }
+        ensures follows { Follows (index_row operation (at_index (grid_of self.old.shape).page index)) self.old self.new result }
+        ensures touches { flushes operation ≡ true → touches_of self.new ≤ touches_of self.old + 2 }
     {
         match operation {
             IndexOperation::InvalidateI => self.invalidate_index_i(index),
@@ -60,6 +62,7 @@ impl Tables {
 
     // An operation on the line of a granule.
     fn operate_on(&mut self, operation: HitOperation, granule: u32, colour: u32) -> Option<Breach>
+        requires steps { self.old.steps < 18446744073709551615 }
         requires granule { granule < (grid_of self.old.shape).whole }
         requires colour { colour < colours self.old.shape }
         ensures { Follows (hit_row operation granule colour) self.old self.new result }
@@ -77,6 +80,7 @@ impl Tables {
 
     // An operation on the line of an address, which does nothing outside RAM.
     fn hit(&mut self, operation: HitOperation, event: &Event) -> Option<Breach>
+        requires steps { self.old.steps < 18446744073709551615 }
         ensures { let shape = self.old.shape in
             let row = hit_row operation (granule shape event.now.pa) (colour shape event.now.va) in
             Follows (where_in_ram event.now.pa row) self.old self.new result }
@@ -86,14 +90,17 @@ impl Tables {
             let colour = self.colour(event.va);
             self.operate_on(operation, granule, colour)
         } else {
-            None
+            self.pass()
         }
     }
 
     // A CACHE operation.
     fn operate(&mut self, event: &Event) -> Option<Breach>
-        ensures { let operation = operation_of event.now.size event.now.value in
+        requires steps { self.old.steps < 18446744073709551615 }
+        ensures follows { let operation = operation_of event.now.size event.now.value in
             Follows (operation_row operation self.old.shape event.now.va event.now.pa) self.old self.new result }
+        ensures touches { is_flush (operation_of event.now.size event.now.value) ≡ true →
+            touches_of self.new ≤ touches_of self.old + 2 }
     {
         match Operation::from_code(event.size, event.value) {
             Operation::Index(operation) => {
@@ -103,19 +110,21 @@ impl Tables {
             Operation::Hit(operation) => self.hit(operation, event),
             Operation::Forge => Some(Breach::Forge),
             Operation::Peek => Some(Breach::Peek),
-            Operation::Nothing => None,
+            Operation::Nothing => self.pass(),
         }
     }
 
     // Holds an event against its row of the table of rules.
     pub(crate) fn hold(&mut self, event: &Event) -> Option<Breach>
-        requires { IsEvent event.now }
-        ensures { Follows (row_of self.old.shape event.now) self.old self.new result }
+        requires steps { self.old.steps < 18446744073709551615 }
+        requires grammar { IsEvent event.now }
+        ensures follows { Follows (row_of self.old.shape event.now) self.old self.new result }
+        ensures touches { is_index_flush event.now ≡ true → touches_of self.new ≤ touches_of self.old + 2 }
     {
         match event.kind {
             EventKind::Cache => self.operate(event),
             _ if event.pa < 8388608 => self.access(event),
-            _ => None,
+            _ => self.pass(),
         }
     }
 }

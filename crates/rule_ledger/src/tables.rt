@@ -1,13 +1,15 @@
 //! The marks of a ledger: what may be so of the copies that the primary caches hold.
 
-ghost use Rattle.std.specs.Prelude.{◌≡◌, ◌<◌, ◌≤◌, ◌+◌, ◌*◌, ◌/◌, ◌%◌, false, length, IfOk};
+ghost use Rattle.std.specs.Prelude.{◌≡◌, ◌<◌, ◌≤◌, ◌+◌, ◌*◌, ◌/◌, ◌%◌, ℕ, false, IfOk};
 ghost use Rattle.r4_shape.specs.Address.{colour, granule, index};
 ghost use Rattle.r4_shape.specs.Numbers.{IsShape, colours, places};
 ghost use Rattle.rule_ledger.specs.Cells.{grid_of, meets};
 ghost use Rattle.rule_ledger.specs.Events.{beat_granules};
 ghost use Rattle.rule_ledger.specs.Facts.{at_index, granules, no_facts, other_colours};
 ghost use Rattle.rule_ledger.specs.MarkFlags.{aged, all_aged, data_at, data_cleared, instruction_at, instructions_aged, instructions_cleared, with_data, with_instruction};
-ghost use Rattle.rule_ledger.specs.Marks.{facts_of, place_of};
+ghost use Rattle.rule_ledger.specs.Marks.{facts_of, place_of, touches_of};
+ghost use Rattle.rule_ledger.specs.Steps.{Counts, Keeps, Reads};
+ghost use Rattle.ledger_table.specs.Table.{row_stamp};
 
 use crate::marks::{DataMark, InstructionMark};
 use crate::places::place_at;
@@ -41,21 +43,23 @@ pub struct Tables {
 impl Model for Tables {
     ghost use Rattle.rule_ledger.specs.Marks.{Ledger};
     ghost use Rattle.r4_shape.specs.Numbers.{IsShape};
-    ghost use Rattle.rule_ledger.specs.Kept.{ArePlaced, IsTableOf};
+    ghost use Rattle.rule_ledger.specs.Kept.{ArePlaced, IsCounted, IsTableOf};
 
     ghost Value = { Ledger };
 
     ghost view = { λ p. record {
       shape = p.shape;
-      data_marks = p.data_marks.marks;
-      instruction_marks = p.instruction_marks.marks;
+      data_table = p.data_marks;
+      instruction_table = p.instruction_marks;
       steps = p.steps;
     } };
 
     ghost invariant = { λ p. ArePlaced p.shape p.prim_bits p.line_bits p.page_bits p.colours p.lines
         × IsTableOf p.shape p.data_marks
         × IsTableOf p.shape p.instruction_marks
-        × IsShape p.shape };
+        × IsShape p.shape
+        × IsCounted p.steps p.data_marks
+        × IsCounted p.steps p.instruction_marks };
 }
 
 // The logarithm of the bytes of a line.
@@ -109,18 +113,19 @@ impl Tables {
         requires granule { granule < (grid_of self.now.shape).whole }
         requires colour { colour < colours self.now.shape }
         ensures place { result ≡ place_of (grid_of self.now.shape) granule colour }
-        ensures in_data { result < length self.now.data_marks }
-        ensures in_instructions { result < length self.now.instruction_marks }
+        ensures in_data { result < self.now.data_table.cells }
+        ensures in_instructions { result < self.now.instruction_table.cells }
     {
         place_at(self.page_bits, self.lines, granule, colour)
     }
 
     // What the ledger has of a cell of the data cache.
     #[inline]
-    pub(crate) fn data_mark(&self, granule: u32, colour: u32) -> DataMark
-        requires granule { granule < (grid_of self.now.shape).whole }
-        requires colour { colour < colours self.now.shape }
-        ensures { result ≡ data_at (facts_of self.now) granule colour }
+    pub(crate) fn data_mark(&mut self, granule: u32, colour: u32) -> DataMark
+        requires granule { granule < (grid_of self.old.shape).whole }
+        requires colour { colour < colours self.old.shape }
+        ensures mark { result ≡ data_at (facts_of self.old) granule colour }
+        ensures reads { Reads self.old self.new }
     {
         let place = self.place(granule, colour);
         DataMark::from_bits(self.data_marks.get(place))
@@ -133,8 +138,8 @@ impl Tables {
         requires page { pa % 4096 ≡ va % 4096 }
         ensures place { let shape = self.now.shape in
             result ≡ place_of (grid_of shape) (granule shape pa) (colour shape va) }
-        ensures in_data { result < length self.now.data_marks }
-        ensures in_instructions { result < length self.now.instruction_marks }
+        ensures in_data { result < self.now.data_table.cells }
+        ensures in_instructions { result < self.now.instruction_table.cells }
     {
         let page = (pa / 4096) as usize;
         page * self.lines + self.index(va) as usize
@@ -142,11 +147,13 @@ impl Tables {
 
     // What the ledger has of the copy in the data cache that an access means.
     #[inline]
-    pub(crate) fn accessed_data(&self, pa: u64, va: u32) -> DataMark
+    pub(crate) fn accessed_data(&mut self, pa: u64, va: u32) -> DataMark
         requires ram { pa < 8388608 }
         requires page { pa % 4096 ≡ va % 4096 }
-        ensures { let shape = self.now.shape in
-            result ≡ data_at (facts_of self.now) (granule shape pa) (colour shape va) }
+        ensures mark { let shape = self.old.shape in
+            result ≡ data_at (facts_of self.old) (granule shape pa) (colour shape va) }
+        ensures is_shape { IsShape self.old.shape }
+        ensures reads { Reads self.old self.new }
     {
         let place = self.place_of_access(pa, va);
         DataMark::from_bits(self.data_marks.get(place))
@@ -154,11 +161,13 @@ impl Tables {
 
     // The same in the instruction cache.
     #[inline]
-    pub(crate) fn accessed_instruction(&self, pa: u64, va: u32) -> InstructionMark
+    pub(crate) fn accessed_instruction(&mut self, pa: u64, va: u32) -> InstructionMark
         requires ram { pa < 8388608 }
         requires page { pa % 4096 ≡ va % 4096 }
-        ensures { let shape = self.now.shape in
-            result ≡ instruction_at (facts_of self.now) (granule shape pa) (colour shape va) }
+        ensures mark { let shape = self.old.shape in
+            result ≡ instruction_at (facts_of self.old) (granule shape pa) (colour shape va) }
+        ensures is_shape { IsShape self.old.shape }
+        ensures reads { Reads self.old self.new }
     {
         let place = self.place_of_access(pa, va);
         InstructionMark::from_bits(self.instruction_marks.get(place))
@@ -170,7 +179,7 @@ impl Tables {
         requires granule { granule < (grid_of self.old.shape).whole }
         requires colour { colour < colours self.old.shape }
         ensures facts { facts_of self.new ≡ with_data granule colour mark (facts_of self.old) }
-        ensures kept { self.new ≡ record self.old { data_marks = self.new.data_marks } }
+        ensures kept { Keeps self.old self.new }
     {
         let place = self.place(granule, colour);
         self.data_marks.set(place, mark.bits());
@@ -178,10 +187,11 @@ impl Tables {
 
     // The same of the instruction cache.
     #[inline]
-    pub(crate) fn instruction_mark(&self, granule: u32, colour: u32) -> InstructionMark
-        requires granule { granule < (grid_of self.now.shape).whole }
-        requires colour { colour < colours self.now.shape }
-        ensures { result ≡ instruction_at (facts_of self.now) granule colour }
+    pub(crate) fn instruction_mark(&mut self, granule: u32, colour: u32) -> InstructionMark
+        requires granule { granule < (grid_of self.old.shape).whole }
+        requires colour { colour < colours self.old.shape }
+        ensures mark { result ≡ instruction_at (facts_of self.old) granule colour }
+        ensures reads { Reads self.old self.new }
     {
         let place = self.place(granule, colour);
         InstructionMark::from_bits(self.instruction_marks.get(place))
@@ -192,7 +202,7 @@ impl Tables {
         requires granule { granule < (grid_of self.old.shape).whole }
         requires colour { colour < colours self.old.shape }
         ensures facts { facts_of self.new ≡ with_instruction granule colour mark (facts_of self.old) }
-        ensures kept { self.new ≡ record self.old { instruction_marks = self.new.instruction_marks } }
+        ensures kept { Keeps self.old self.new }
     {
         let place = self.place(granule, colour);
         self.instruction_marks.set(place, mark.bits());
@@ -200,9 +210,10 @@ impl Tables {
 
     // Whether the granule may be dirty at another colour.
     #[inline]
-    pub(crate) fn is_dirty_elsewhere(&self, granule: u32, colour: u32) -> bool
-        requires { granule < (grid_of self.now.shape).whole }
-        ensures { result ≡ meets (grid_of self.now.shape) (other_colours granule colour) (facts_of self.now).dirty }
+    pub(crate) fn is_dirty_elsewhere(&mut self, granule: u32, colour: u32) -> bool
+        requires { granule < (grid_of self.old.shape).whole }
+        ensures is { result ≡ meets (grid_of self.old.shape) (other_colours granule colour) (facts_of self.old).dirty }
+        ensures reads { Reads self.old self.new }
     {
         for other in 0..self.colours {
             if other != colour && self.data_mark(granule, other).dirty {
@@ -214,9 +225,10 @@ impl Tables {
 
     // Whether the granule may be dirty at a colour.
     #[inline]
-    pub(crate) fn is_dirty(&self, granule: u32) -> bool
-        requires { granule < (grid_of self.now.shape).whole }
-        ensures { result ≡ meets (grid_of self.now.shape) (granules granule 1) (facts_of self.now).dirty }
+    pub(crate) fn is_dirty(&mut self, granule: u32) -> bool
+        requires { granule < (grid_of self.old.shape).whole }
+        ensures is { result ≡ meets (grid_of self.old.shape) (granules granule 1) (facts_of self.old).dirty }
+        ensures reads { Reads self.old self.new }
     {
         for colour in 0..self.colours {
             if self.data_mark(granule, colour).dirty {
@@ -227,9 +239,10 @@ impl Tables {
     }
 
     // Whether one of so many granules may be dirty.
-    pub(crate) fn is_any_dirty(&self, first: u32, count: u32) -> bool
-        requires { first + count ≤ (grid_of self.now.shape).whole }
-        ensures { result ≡ meets (grid_of self.now.shape) (granules first count) (facts_of self.now).dirty }
+    pub(crate) fn is_any_dirty(&mut self, first: u32, count: u32) -> bool
+        requires { first + count ≤ (grid_of self.old.shape).whole }
+        ensures is { result ≡ meets (grid_of self.old.shape) (granules first count) (facts_of self.old).dirty }
+        ensures reads { Reads self.old self.new }
     {
         for granule in first..first + count {
             if self.is_dirty(granule) {
@@ -244,7 +257,7 @@ impl Tables {
     pub(crate) fn age(&mut self, granule: u32)
         requires { granule < (grid_of self.old.shape).whole }
         ensures facts { facts_of self.new ≡ aged (granules granule 1) (facts_of self.old) }
-        ensures kept { self.new ≡ record self.old { data_marks = self.new.data_marks } }
+        ensures kept { Keeps self.old self.new }
     {
         for colour in 0..self.colours {
             let mark = self.data_mark(granule, colour);
@@ -258,7 +271,7 @@ impl Tables {
     pub(crate) fn age_instructions(&mut self, granule: u32)
         requires { granule < (grid_of self.old.shape).whole }
         ensures facts { facts_of self.new ≡ instructions_aged (granules granule 1) (facts_of self.old) }
-        ensures kept { self.new ≡ record self.old { instruction_marks = self.new.instruction_marks } }
+        ensures kept { Keeps self.old self.new }
     {
         for colour in 0..self.colours {
             let mark = self.instruction_mark(granule, colour);
@@ -269,18 +282,22 @@ impl Tables {
 
     // There are no copies at an index of the data cache.
     pub(crate) fn clear_data(&mut self, index: u32)
-        requires { index < places self.old.shape }
+        requires index { index < places self.old.shape }
+        requires room { row_stamp self.old.data_table index < self.old.steps }
         ensures facts { facts_of self.new ≡ data_cleared (at_index (grid_of self.old.shape).page index) (facts_of self.old) }
-        ensures kept { self.new ≡ record self.old { data_marks = self.new.data_marks } }
+        ensures kept { Keeps self.old self.new }
+        ensures touches { touches_of self.new ≤ touches_of self.old + 2 }
     {
         self.data_marks.clear_row(index as usize);
     }
 
     // The same in the instruction cache.
     pub(crate) fn clear_instructions(&mut self, index: u32)
-        requires { index < places self.old.shape }
+        requires index { index < places self.old.shape }
+        requires room { row_stamp self.old.instruction_table index < self.old.steps }
         ensures facts { facts_of self.new ≡ instructions_cleared (at_index (grid_of self.old.shape).page index) (facts_of self.old) }
-        ensures kept { self.new ≡ record self.old { instruction_marks = self.new.instruction_marks } }
+        ensures kept { Keeps self.old self.new }
+        ensures touches { touches_of self.new ≤ touches_of self.old + 2 }
     {
         self.instruction_marks.clear_row(index as usize);
     }
@@ -334,15 +351,17 @@ impl Tables {
     }
 
     // Whether a granule may be dirty at an index.
-    pub(crate) fn is_dirty_at(&self, index: u32) -> bool
-        requires { index < places self.now.shape }
-        ensures { let grid = grid_of self.now.shape in
-            result ≡ meets grid (at_index grid.page index) (facts_of self.now).dirty }
+    pub(crate) fn is_dirty_at(&mut self, index: u32) -> bool
+        requires { index < places self.old.shape }
+        ensures is { let grid = grid_of self.old.shape in
+            result ≡ meets grid (at_index grid.page index) (facts_of self.old).dirty }
+        ensures reads { Reads self.old self.new }
     {
-        let colour = index >> self.page_bits;
-        let within = index - (colour << self.page_bits);
+        let page_bits = self.page_bits;
+        let colour = index >> page_bits;
+        let within = index - (colour << page_bits);
         for page in 0..PAGES {
-            let at = (page << self.page_bits) + within;
+            let at = (page << page_bits) + within;
             if self.data_mark(at, colour).dirty {
                 return true;
             }
@@ -354,10 +373,7 @@ impl Tables {
     pub(crate) fn age_all(&mut self, first: u32, count: u32)
         requires { first + count ≤ (grid_of self.old.shape).whole }
         ensures facts { facts_of self.new ≡ all_aged (granules first count) (facts_of self.old) }
-        ensures kept { self.new ≡ record self.old {
-          data_marks = self.new.data_marks;
-          instruction_marks = self.new.instruction_marks;
-        } }
+        ensures kept { Keeps self.old self.new }
     {
         for granule in first..first + count {
             self.age(granule);
@@ -369,8 +385,17 @@ impl Tables {
     #[inline]
     pub(crate) fn count_step(&mut self)
         requires { self.old.steps < 18446744073709551615 }
-        ensures { self.new ≡ record self.old { steps = self.old.steps + 1 } }
+        ensures { Counts self.old self.new }
     {
         self.steps += 1;
+    }
+
+    // How often a number of the two tables was read or written.
+    pub(crate) fn touches(&self) -> u64
+        ensures { result ≡ touches_of self.now }
+    {
+        self.data_marks
+            .touches()
+            .saturating_add(self.instruction_marks.touches())
     }
 }

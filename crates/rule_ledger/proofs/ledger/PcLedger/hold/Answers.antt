@@ -1,5 +1,5 @@
-use Rattle.rule_ledger.proofs.Stepping.{kept_after, counted}
+use Rattle.rule_ledger.proofs.Stepping.{kept_after}
 use Rattle.rule_ledger.proofs.ledger.PcLedger.hold.Goals as goal
 
 pub invariant_of-self : goal.invariant_of-self
-invariant_of-self c = rw c.count_step.ensures (counted _ _ (kept_after c.self.inside.tables c.hold-breach.new.self c.args.event _ c.self.invariant c.hold-breach.ensures))
+invariant_of-self c = kept_after _ c.self.inside.tables c.hold.new.self c.args.event _ c.self.invariant c.hold.ensures.follows

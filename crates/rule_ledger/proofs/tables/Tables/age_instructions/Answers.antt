@@ -1,10 +1,23 @@
-use Rattle.std.proofs.Common.{◌∙◌, ap}
-use Rattle.rule_ledger.specs.Marks.{Ledger}
-use Rattle.rule_ledger.proofs.Ageing.{instructions_aged_more}
+use Rattle.std.proofs.Common.{◌≤◌, ◌∙◌, ap, arith}
+use Rattle.rule_ledger.specs.Cells.{grid_of}
+use Rattle.rule_ledger.specs.Marks.{facts_of}
+use Rattle.rule_ledger.specs.MarkFlags.{with_instruction}
+use Rattle.rule_ledger.proofs.Ageing.{instructions_aged_more, instructions_aged_all}
+use Rattle.rule_ledger.proofs.Reading.{iheld_past}
 use Rattle.rule_ledger.proofs.tables.Tables.age_instructions.Goals as goal
 
 pub loop-colour-preserved : goal.loop-colour-preserved
-loop-colour-preserved c = record {
-  facts = instructions_aged_more _ _ _ c.args.granule c.loop-colour.colour c.instruction_mark-mark.result c.loop-colour.invariant.facts c.instruction_mark-mark.ensures c.put_instruction_mark.ensures.facts;
-  kept = c.put_instruction_mark.ensures.kept ∙ ap (λ (w : Ledger). record w { instruction_marks = c.put_instruction_mark.new.self.instruction_marks }) c.loop-colour.invariant.kept;
-}
+loop-colour-preserved c =
+    let before = c.loop-colour.invariant in
+    let read = c.instruction_mark-mark.ensures.reads in
+    let put = c.put_instruction_mark.ensures.kept in
+    record {
+      facts = instructions_aged_more _ _ _ c.args.granule c.loop-colour.colour c.instruction_mark-mark.result before.facts c.instruction_mark-mark.ensures.mark
+          (c.put_instruction_mark.ensures.facts ∙ ap (with_instruction c.args.granule c.loop-colour.colour _) read.facts);
+      kept = record { shape = put.shape ∙ (read.shape ∙ before.kept.shape); steps = put.steps ∙ (read.steps ∙ before.kept.steps) };
+    }
+
+pub returns-clause-facts : goal.returns-clause-facts
+returns-clause-facts c =
+    let end : (grid_of c.args.self.now.shape).colours ≤ c.loop-colour.colour = rw (← c.self.view_is, ← c.self.invariant.0.colours) c.loop-colour-test.false in
+    c.loop-colour.invariant.facts ∙ instructions_aged_all (facts_of c.args.self.now) c.args.granule c.loop-colour.colour (λ h d far. iheld_past c.args.self.now h d (omega arith))

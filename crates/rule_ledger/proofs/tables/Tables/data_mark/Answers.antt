@@ -1,8 +1,14 @@
+use Rattle.std.proofs.Common.{refl}
 use Rattle.rule_ledger.proofs.Grids.{grid_is}
-use Rattle.rule_ledger.proofs.Replacing.{data_at_is}
+use Rattle.rule_ledger.proofs.Reading.{table_read, counted_read, data_read, facts_data_read}
 use Rattle.rule_ledger.proofs.tables.Tables.data_mark.Goals as goal
 
-pub returns : goal.returns
-returns c = rw (c.from_bits.ensures, c.get.ensures, c.place-place.ensures.place, ← c.self.view_is)
-    (data_at_is _ (grid_is _ _ _ _ _ _ c.self.invariant.0) c.self.inside.data_marks.marks c.self.inside.instruction_marks.marks c.args.granule c.args.colour
-    (rw (← c.self.view_is) at c.requires.granule) (rw (← c.self.view_is) at c.requires.colour))
+pub invariant_of-self : goal.invariant_of-self
+invariant_of-self c = let i = c.self.invariant in rw c.get.ensures.kept (i.0, table_read _ _ _ i.1, i.2, i.3, counted_read _ _ _ i.4, i.5)
+
+pub returns-clause-mark : goal.returns-clause-mark
+returns-clause-mark c = rw (c.from_bits.ensures, c.get.ensures.mark, c.place-place.ensures.place, ← c.self.view_is)
+    (data_read _ (grid_is _ _ _ _ _ _ c.self.invariant.0) c.args.granule c.args.colour (rw (← c.self.view_is) at c.requires.granule) (rw (← c.self.view_is) at c.requires.colour))
+
+pub returns-clause-reads : goal.returns-clause-reads
+returns-clause-reads c = rw (← c.self.view_is, c.get.ensures.kept) (record { facts = facts_data_read _ _; shape = refl; steps = refl })

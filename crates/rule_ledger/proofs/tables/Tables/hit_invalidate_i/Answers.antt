@@ -1,18 +1,16 @@
 use Rattle.std.proofs.Common.{◌∙◌, ap}
 use Rattle.rule_ledger.specs.Cells.{Grid, grid_of}
 use Rattle.rule_ledger.specs.Facts.{Facts, cell}
-use Rattle.rule_ledger.specs.Marks.{Ledger, facts_of}
+use Rattle.rule_ledger.specs.Marks.{facts_of}
 use Rattle.rule_ledger.proofs.Rows.{invalidate_i_breach, hit_invalidated_i}
+use Rattle.rule_ledger.proofs.Reading.{reads_then, meets_read}
+use Rattle.rule_ledger.proofs.Answering.{breached, kept_rules, counted_rules, reads_keeps, keeps_then}
 use Rattle.rule_ledger.proofs.tables.Tables.hit_invalidate_i.Goals as goal
 
 pub returns : goal.returns
 returns c =
     let grid : Grid = grid_of c.args.self.now.shape in
     let facts : Facts = facts_of c.args.self.now in
-    record {
-      breach = invalidate_i_breach grid facts (cell c.args.granule c.args.colour);
-      facts = c.put_instruction_mark.ensures.facts ∙ hit_invalidated_i facts c.args.granule c.args.colour;
-      stays = tt;
-      shape = ap (λ (w : Ledger). w.shape) c.put_instruction_mark.ensures.kept;
-      steps = ap (λ (w : Ledger). w.steps) c.put_instruction_mark.ensures.kept;
-    }
+    kept_rules _ _ _ _ c.count_step.ensures c.put_instruction_mark.ensures.kept
+    (c.put_instruction_mark.ensures.facts ∙ hit_invalidated_i facts c.args.granule c.args.colour)
+    (invalidate_i_breach grid facts (cell c.args.granule c.args.colour))

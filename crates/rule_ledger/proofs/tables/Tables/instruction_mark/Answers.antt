@@ -1,8 +1,14 @@
+use Rattle.std.proofs.Common.{refl}
 use Rattle.rule_ledger.proofs.Grids.{grid_is}
-use Rattle.rule_ledger.proofs.Replacing.{instruction_at_is}
+use Rattle.rule_ledger.proofs.Reading.{table_read, counted_read, instruction_read, facts_instructions_read}
 use Rattle.rule_ledger.proofs.tables.Tables.instruction_mark.Goals as goal
 
-pub returns : goal.returns
-returns c = rw (c.from_bits.ensures, c.get.ensures, c.place-place.ensures.place, ← c.self.view_is)
-    (instruction_at_is _ (grid_is _ _ _ _ _ _ c.self.invariant.0) c.self.inside.data_marks.marks c.self.inside.instruction_marks.marks c.args.granule c.args.colour
-    (rw (← c.self.view_is) at c.requires.granule) (rw (← c.self.view_is) at c.requires.colour))
+pub invariant_of-self : goal.invariant_of-self
+invariant_of-self c = let i = c.self.invariant in rw c.get.ensures.kept (i.0, i.1, table_read _ _ _ i.2, i.3, i.4, counted_read _ _ _ i.5)
+
+pub returns-clause-mark : goal.returns-clause-mark
+returns-clause-mark c = rw (c.from_bits.ensures, c.get.ensures.mark, c.place-place.ensures.place, ← c.self.view_is)
+    (instruction_read _ (grid_is _ _ _ _ _ _ c.self.invariant.0) c.args.granule c.args.colour (rw (← c.self.view_is) at c.requires.granule) (rw (← c.self.view_is) at c.requires.colour))
+
+pub returns-clause-reads : goal.returns-clause-reads
+returns-clause-reads c = rw (← c.self.view_is, c.get.ensures.kept) (record { facts = facts_instructions_read _ _; shape = refl; steps = refl })

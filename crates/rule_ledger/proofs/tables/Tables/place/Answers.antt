@@ -13,6 +13,6 @@ returns c =
     let inside = place_inside (grid_of c.self.inside.shape) (grid_is _ _ _ _ _ _ placed) c.args.granule c.args.colour (rw (← c.self.view_is) at c.requires.granule) (rw (← c.self.view_is) at c.requires.colour) in
     rw (← c.self.view_is) (record {
       place = same;
-      in_data = rw (same, c.self.invariant.1.len) inside;
-      in_instructions = rw (same, c.self.invariant.2.len) inside;
+      in_data = rw (same, c.self.invariant.1.cells) inside;
+      in_instructions = rw (same, c.self.invariant.2.cells) inside;
     })

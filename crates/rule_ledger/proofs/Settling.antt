@@ -1,5 +1,5 @@
 -- Where the mark of one copy tells that an access breaks no rule and changes no fact.
-use Rattle.std.proofs.Common.{◌≡◌, ℕ, ◌<◌, true, false, None, refl, sym, ◌∙◌, inl, inr, ◌&&◌, ◌||◌, not, eqb}
+use Rattle.std.proofs.Common.{◌≡◌, ℕ, ◌<◌, true, false, refl, sym, ◌∙◌, inl, inr, ◌&&◌, ◌||◌, not, eqb}
 use Rattle.std.proofs.Math.Path.{fun_ext}
 use Rattle.std.proofs.lemmas.Bool.{cases_Bool, and_parts, eqb-true, eqb-false, not-true, both_ways, false_from_ne_true}
 use Rattle.rule_ledger.specs.Facts.{Cells, Facts, cell, other_colours, granules, both, either}
@@ -7,7 +7,7 @@ use Rattle.rule_ledger.specs.Cells.{Grid, grid_of, meets}
 use Rattle.rule_ledger.specs.Consistent.{IsConsistent}
 use Rattle.rule_ledger.specs.Marks.{Ledger, facts_of}
 use Rattle.rule_ledger.specs.Rules.{cached_load, cached_store, cached_fetch}
-use Rattle.rule_ledger.specs.Steps.{Follows}
+use Rattle.rule_ledger.specs.Steps.{Settles}
 use Rattle.rule_ledger.proofs.Meeting.{meets_cell, none_elsewhere, none_on, same_granule, granule_of}
 use Rattle.rule_ledger.proofs.Rows.{load_breach, store_breach, fetch_breach}
 
@@ -32,7 +32,7 @@ aged_same set held old aged = fun_ext (λ h. fun_ext (λ d. at h d))
 
 module _ (v : Ledger) (is : IsConsistent (grid_of v.shape) (facts_of v)) (g c : ℕ) (gl : g < (grid_of v.shape).whole) (cl : c < (grid_of v.shape).colours) where
   -- A load of a fresh copy that is held: were the granule dirty at another colour, the copy would be old.
-  pub settled_load : (facts_of v).held g c ≡ true → (facts_of v).old g c ≡ false → Follows (cached_load g c) v v None
+  pub settled_load : (facts_of v).held g c ≡ true → (facts_of v).old g c ≡ false → Settles (cached_load g c) v
   settled_load held fresh =
       let grid : Grid = grid_of v.shape in
       let k : Facts = facts_of v in
@@ -42,13 +42,10 @@ module _ (v : Ledger) (is : IsConsistent (grid_of v.shape) (facts_of v)) (g c : 
       record {
         breach = load_breach grid k g c false false (meets_cell grid k.old g c gl cl ∙ fresh) none;
         facts = λ i. record { held = same i; dirty = k.dirty; old = k.old; iheld = k.iheld; iold = k.iold };
-        stays = tt;
-        shape = refl;
-        steps = refl;
       }
 
   -- A store to a copy that is dirty: it is held and fresh, the granule is dirty at no other colour, and every other copy is old.
-  pub settled_store : (facts_of v).dirty g c ≡ true → Follows (cached_store g c) v v None
+  pub settled_store : (facts_of v).dirty g c ≡ true → Settles (cached_store g c) v
   settled_store dirty =
       let grid : Grid = grid_of v.shape in
       let k : Facts = facts_of v in
@@ -62,13 +59,10 @@ module _ (v : Ledger) (is : IsConsistent (grid_of v.shape) (facts_of v)) (g c : 
       record {
         breach = store_breach grid k g c false false (meets_cell grid k.old g c gl cl ∙ is.not_old g c dirty) none;
         facts = λ i. record { held = held i; dirty = same i; old = old i; iheld = k.iheld; iold = iold i };
-        stays = tt;
-        shape = refl;
-        steps = refl;
       }
 
   -- A fetch of a fresh copy that is held: were the granule dirty at a colour, the copy would be old.
-  pub settled_fetch : (facts_of v).iheld g c ≡ true → (facts_of v).iold g c ≡ false → Follows (cached_fetch g c) v v None
+  pub settled_fetch : (facts_of v).iheld g c ≡ true → (facts_of v).iold g c ≡ false → Settles (cached_fetch g c) v
   settled_fetch held fresh =
       let grid : Grid = grid_of v.shape in
       let k : Facts = facts_of v in
@@ -79,7 +73,4 @@ module _ (v : Ledger) (is : IsConsistent (grid_of v.shape) (facts_of v)) (g c : 
       record {
         breach = fetch_breach grid k g c false false (meets_cell grid k.iold g c gl cl ∙ fresh) none;
         facts = λ i. record { held = k.held; dirty = k.dirty; old = k.old; iheld = same i; iold = k.iold };
-        stays = tt;
-        shape = refl;
-        steps = refl;
       }
