@@ -39,11 +39,13 @@ counted_more steps t is = record { stamps = λ row. let low = is.stamps row in o
 -- a row that was cleared less often than there were steps is cleared
 pub counted_cleared : (steps : ℕ) (t u : Table) (row : ℕ) → row_stamp t row < steps
     → ((other : ℕ) → row_stamp u other ≡ cond (eqb other row) (row_stamp t row + 1) (row_stamp t other)) → IsCounted steps t → IsCounted steps u
-counted_cleared steps t u row room raised is = record { stamps = λ other. elim (cases_eq other row) [
-  | inl e ↦ (let one : row_stamp u other ≡ row_stamp t row + 1 = raised other ∙ ap (λ b. cond b (row_stamp t row + 1) (row_stamp t other)) (eq-eqb other row e) in omega arith)
-  | inr n ↦ (let low = is.stamps other in
-      let one : row_stamp u other ≡ row_stamp t other = raised other ∙ ap (λ b. cond b (row_stamp t row + 1) (row_stamp t other)) (ne_eqb other row n) in omega arith)
-] }
+counted_cleared steps t u row room raised is = record {
+  stamps = λ other. elim (cases_eq other row) [
+    | inl e ↦ (let one : row_stamp u other ≡ row_stamp t row + 1 = raised other ∙ ap (λ b. cond b (row_stamp t row + 1) (row_stamp t other)) (eq-eqb other row e) in omega arith)
+    | inr n ↦ (let low = is.stamps other in
+        let one : row_stamp u other ≡ row_stamp t other = raised other ∙ ap (λ b. cond b (row_stamp t row + 1) (row_stamp t other)) (ne_eqb other row n) in omega arith)
+  ];
+}
 
 -- ---- facts
 
