@@ -49,8 +49,7 @@ impl Judge {
     /// A judge who has seen no event.
     pub fn new(alloc: Global, shape: Shape) -> Result<Judge, Memory>
         requires { shape.sc ≡ false }
-        ensures shape { IfOk result (λ judge. judge.ledger.shape ≡ shape) }
-        ensures start { IfOk result (λ judge. standing_at judge ≡ start) }
+        ensures start { IfOk result (λ judge. standing_at judge ≡ start shape) }
     {
         Ok(Judge {
             ledger: PcLedger::new(alloc, shape)?,
@@ -90,10 +89,9 @@ impl Judge {
     pub fn judge(&mut self, event: &Event) -> Verdict
         requires grammar { IsEvent event.now }
         requires events { self.old.events < 18446744073709551615 }
-        ensures standing { standing_at self.new ≡ held self.old.ledger.shape (standing_at self.old) event.now }
+        ensures standing { standing_at self.new ≡ held (standing_at self.old) event.now }
         ensures verdict { result ≡ verdict_by self.new.first }
         ensures count { self.new.events ≡ self.old.events + 1 }
-        ensures shape { self.new.ledger.shape ≡ self.old.ledger.shape }
     {
         if self.first.is_none() {
             if let Some(breach) = self.ledger.step(event) {

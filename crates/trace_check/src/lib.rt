@@ -3,7 +3,8 @@
 //! - `found`: the first event that breaks a rule.
 //! - `judge`: the judge, to whom events are shown one by one.
 //!
-//! The definitions stand in specs/Verdicts.antt; proofs/Lists.antt has what the verdict on a list has to do with its parts.
+//! The definitions stand in specs/Books.antt and specs/Verdicts.antt; proofs/Lists.antt has what the verdict on a list has to do
+//! with its parts.
 #![tactic(auto)]
 
 mod found;
