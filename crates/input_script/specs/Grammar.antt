@@ -19,6 +19,8 @@ use Rattle.input_script.specs.declared.inputs.What.TheVariants.{Key, Irq, Hold, 
 use Rattle.input_script.specs.declared.inputs.Input.{Input}
 use Rattle.input_script.specs.declared.faults.ScriptWhy.{ScriptWhy}
 use Rattle.input_script.specs.declared.faults.ScriptWhy.TheVariants as why
+use Rattle.input_script.specs.declared.faults.ScriptFault.{ScriptFault}
+use Rattle.input_script.specs.declared.faults.ScriptFault.TheVariants as fault
 
 -- LINES AND WORDS
 
@@ -213,3 +215,13 @@ text_of readings = text_by readings (bad_lines readings)
 -- What a text says: the inputs of all its lines, or its first bad line.
 unfoldable pub script_text : List ℕ → ScriptText
 script_text text = text_of (readings_of text)
+
+-- A text has the first bad line that a fault names; want of memory says nothing of it.
+abbrev pub IsFirstBadBy : List ℕ → ScriptFault → Type 0
+IsFirstBadBy text (fault.Bad line reason) = IsFirstBad (readings_of text) line reason
+IsFirstBadBy text fault.Memory = Unit {0}
+
+-- The same of what a text says.
+abbrev pub IsRefused : ScriptText → ScriptFault → Type 0
+IsRefused text (fault.Bad line reason) = text ≡ Bad line reason
+IsRefused text fault.Memory = Unit {0}
