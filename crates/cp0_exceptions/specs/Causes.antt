@@ -4,6 +4,7 @@
 use Rattle.std.specs.Prelude.{◌≡◌, ℕ, ◌==◌, ◌<◌, Bool, true, false, List, [], ◌∷◌, Option, Some, None, is_some}
 use Rattle.std.specs.List.{find}
 use Rattle.cp0_exceptions.specs.declared.raising.Raised.{Raised}
+use Rattle.cp0_exceptions.specs.Codes as codes
 
 -- What a cause shows of the address that it came of: nothing, the address in BadVAddr, or its page too, in Context and
 -- EntryHi.
@@ -23,38 +24,38 @@ pub record Cause : Type 0 where
 abbrev pub cause : ℕ → Shown → Bool → Bool → Cause
 cause code shown can_refill tells_unit = record { code = code; shown = shown; can_refill = can_refill; tells_unit = tells_unit }
 
--- a cause that changes nothing more
-abbrev pub plain : ℕ → Cause
-plain code = cause code NoAddress false false
+-- a cause that changes nothing more than the code
+abbrev pub code_alone : ℕ → Cause
+code_alone code = cause code NoAddress false false
 
 abbrev pub causes : List Cause
 causes =
     -- Int, an interrupt
-    plain 0 ∷
+    code_alone codes.interrupt ∷
     -- Mod, a store to a page that is not dirty
-    cause 1 AddressAndPage false false ∷
+    cause codes.modified AddressAndPage false false ∷
     -- TLBL and TLBS, no page or an invalid one: at a fetch or load, and at a store
-    cause 2 AddressAndPage true false ∷
-    cause 3 AddressAndPage true false ∷
+    cause codes.tlb_load AddressAndPage true false ∷
+    cause codes.tlb_store AddressAndPage true false ∷
     -- AdEL and AdES, an address error: at a fetch or load, and at a store
-    cause 4 Address false false ∷
-    cause 5 Address false false ∷
+    cause codes.address_load Address false false ∷
+    cause codes.address_store Address false false ∷
     -- IBE and DBE, a bus error: at a fetch, and at a load or store
-    plain 6 ∷
-    plain 7 ∷
+    code_alone codes.bus_fetch ∷
+    code_alone codes.bus_data ∷
     -- Sys, Bp and RI: a system call, a breakpoint, a reserved instruction
-    plain 8 ∷
-    plain 9 ∷
-    plain 10 ∷
+    code_alone codes.system_call ∷
+    code_alone codes.breakpoint ∷
+    code_alone codes.reserved_instruction ∷
     -- CpU, a coprocessor that is not usable
-    cause 11 NoAddress false true ∷
+    cause codes.coprocessor_unusable NoAddress false true ∷
     -- Ov and Tr: an overflow, a trap
-    plain 12 ∷
-    plain 13 ∷
+    code_alone codes.overflow ∷
+    code_alone codes.trap ∷
     -- VCEI, a line of the secondary cache under another virtual index: at a fetch
-    cause 14 Address false false ∷
+    cause codes.coherency_fetch Address false false ∷
     -- VCED, the same at a load or store
-    cause 31 Address false false ∷ []
+    cause codes.coherency_data Address false false ∷ []
 
 -- the cause of a code, None where no cause has it
 abbrev pub cause_of : ℕ → Option Cause

@@ -48,7 +48,7 @@ fn set_return(cp0: &mut Cp0, pc: u32, slot: bool)
         return;
     }
     cp0.set(EPC, return_address(pc, slot));
-    cp0.set_field(BD, if slot { 1 } else { 0 });
+    cp0.set_field(BD, u32::from(slot));
 }
 
 // Tells the unit where the cause does.

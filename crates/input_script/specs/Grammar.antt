@@ -13,11 +13,14 @@ use Rattle.std.specs.List.{slice_split, list_all, list_any, filter_map, flat_map
 use Rattle.std.specs.Str.Lines.{strip_carriage_return}
 use Rattle.std.specs.Char.{is_ascii_hexdigit}
 use Rattle.r4_words.specs.Texts.{read_dec, value_of_digit}
+use Rattle.r4_words.specs.Ascii.{newline, blank, hash}
 use Rattle.input_script.specs.declared.inputs.What.{What}
 use Rattle.input_script.specs.declared.inputs.What.TheVariants.{Key, Irq, Hold, Go}
 use Rattle.input_script.specs.declared.inputs.Input.{Input}
 use Rattle.input_script.specs.declared.faults.ScriptWhy.{ScriptWhy}
 use Rattle.input_script.specs.declared.faults.ScriptWhy.TheVariants as why
+use Rattle.input_script.specs.declared.faults.ScriptFault.{ScriptFault}
+use Rattle.input_script.specs.declared.faults.ScriptFault.TheVariants as fault
 
 -- LINES AND WORDS
 
@@ -27,16 +30,16 @@ parts_of code text = slice_split (λ byte. byte == code) text
 
 -- The lines of a text: its parts between newlines. After a newline at the end stands one that is empty, and skipped.
 abbrev pub lines_of : List ℕ → List (List ℕ)
-lines_of text = parts_of 10 text
+lines_of text = parts_of newline text
 
 -- the words of a line: its parts between blanks, of which two side by side have an empty word between them
 abbrev pub words_of : List ℕ → List (List ℕ)
-words_of line = parts_of 32 line
+words_of line = parts_of blank line
 
 -- a line that is skipped: an empty one, or one that begins with #
 abbrev pub is_skipped : List ℕ → Bool
 is_skipped [] = true
-is_skipped (code ∷ line) = code == 35
+is_skipped (code ∷ line) = code == hash
 
 -- ROWS
 
@@ -212,3 +215,13 @@ text_of readings = text_by readings (bad_lines readings)
 -- What a text says: the inputs of all its lines, or its first bad line.
 unfoldable pub script_text : List ℕ → ScriptText
 script_text text = text_of (readings_of text)
+
+-- A text has the first bad line that a fault names; want of memory says nothing of it.
+abbrev pub IsFirstBadBy : List ℕ → ScriptFault → Type 0
+IsFirstBadBy text (fault.Bad line reason) = IsFirstBad (readings_of text) line reason
+IsFirstBadBy text fault.Memory = Unit {0}
+
+-- The same of what a text says.
+abbrev pub IsRefused : ScriptText → ScriptFault → Type 0
+IsRefused text (fault.Bad line reason) = text ≡ Bad line reason
+IsRefused text fault.Memory = Unit {0}

@@ -7,13 +7,11 @@ use Rattle.input_script.specs.declared.inputs.What.TheVariants.{Key}
 use Rattle.input_script.specs.declared.inputs.Input.{Input}
 use Rattle.input_script.specs.declared.faults.ScriptWhy.{ScriptWhy}
 use Rattle.input_script.specs.declared.faults.ScriptWhy.TheVariants as why
-use Rattle.input_script.specs.declared.faults.ScriptFault.{ScriptFault}
-use Rattle.input_script.specs.declared.faults.ScriptFault.TheVariants as fault
 use Rattle.input_script.specs.declared.rows.Deed.{Deed}
 use Rattle.input_script.specs.declared.rows.Deed.TheVariants.{Keys, One}
 use Rattle.input_script.specs.declared.lines.Said.{Said}
 use Rattle.input_script.specs.Inputs.{NamesALine, is_key}
-use Rattle.input_script.specs.Grammar.{Row, whats_of, bytes_of_pairs, Reading, Skipped, Says, Refused, inputs_in, readings_of, IsFirstBad, ScriptText, Bad}
+use Rattle.input_script.specs.Grammar.{Row, whats_of, bytes_of_pairs, Reading, Skipped, Says, Refused, inputs_in}
 
 -- what comes by a deed
 abbrev pub whats_shown : Deed → List What
@@ -78,13 +76,3 @@ abbrev pub IsTaken : ℕ → Reading → List Input → List Input → Result �
 IsTaken latest reading old new (Ok next) =
     (fault_by latest reading ≡ None) × (next ≡ latest_after latest reading) × (new ≡ old ++ inputs_in reading)
 IsTaken latest reading old new (Err reason) = fault_by latest reading ≡ Some reason
-
--- a text has this first bad line; want of memory says nothing of it
-abbrev pub IsFirstBadBy : List ℕ → ScriptFault → Type 0
-IsFirstBadBy text (fault.Bad line reason) = IsFirstBad (readings_of text) line reason
-IsFirstBadBy text fault.Memory = Unit {0}
-
--- the same of what a text says
-abbrev pub IsRefused : ScriptText → ScriptFault → Type 0
-IsRefused text (fault.Bad line reason) = text ≡ Bad line reason
-IsRefused text fault.Memory = Unit {0}

@@ -1,8 +1,7 @@
 //! The script of a text.
 
 ghost use Rattle.std.specs.Prelude.{◌≡◌, ◌≤◌, length, IfOk, IfErr, OnOk};
-ghost use Rattle.input_script.specs.Grammar.{HasNoBadLine, Inputs, inputs_of, readings_of, script_text};
-ghost use Rattle.input_script.specs.Shown.{IsFirstBadBy, IsRefused};
+ghost use Rattle.input_script.specs.Grammar.{HasNoBadLine, Inputs, IsFirstBadBy, IsRefused, inputs_of, readings_of, script_text};
 
 use crate::faults::ScriptFault;
 use crate::parts::first_part;

@@ -24,6 +24,7 @@ use Rattle.mips3_table.specs.Rows.{row_at}
 use Rattle.mips3_alu.specs.declared.registers.Regs.{Regs}
 use Rattle.mips3_alu.specs.declared.registers.Halves.{Halves}
 use Rattle.mips3_alu.specs.Arithmetic.{reduced, sum, sum_if_fits, difference, difference_if_fits, nor, less, less_unsigned, one_where, shifted_left, shifted_right_logical, shifted_right_arithmetic, product, product_unsigned, division, division_unsigned}
+use Rattle.cp0_exceptions.specs.Codes as codes
 use Rattle.mips3_exec.specs.declared.effects.Effect.{Effect}
 use Rattle.mips3_exec.specs.declared.effects.Effect.TheVariants as effect
 use Rattle.mips3_exec.specs.declared.effects.Touch.{Touch}
@@ -61,21 +62,21 @@ abbrev pub division_by : Signedness → ℕ → ℕ → ℕ → Halves
 division_by Signed width a b = division width a b
 division_by Unsigned width a b = division_unsigned width a b
 
--- an exception, by its code in Cause: 8 system call, 9 breakpoint, 11 coprocessor unusable, 12 overflow, 13 trap
+-- an exception that an instruction raises by itself, by its code in Cause
 abbrev pub exception : ℕ → Effect
 exception code = effect.Raise code 0
 
 -- a value that was found goes to a register, and where there is none the overflow exception is raised
 abbrev pub set_or_overflow : ℕ → Option ℕ → Effect
 set_or_overflow reg (Some value) = effect.Set reg value
-set_or_overflow reg None = exception 12
+set_or_overflow reg None = exception codes.overflow
 
 abbrev pub to_hi_and_lo : Halves → Effect
 to_hi_and_lo halves = effect.HiLo halves.hi halves.lo
 
 -- the trap exception under a condition
 abbrev pub trap_where : Bool → Effect
-trap_where condition = if condition then exception 13 else effect.Nothing
+trap_where condition = if condition then exception codes.trap else effect.Nothing
 
 -- a branch likely
 abbrev pub is_likely : DelaySlot → Bool
@@ -84,8 +85,8 @@ is_likely NullifiedUnlessTaken = true
 
 -- the exception of a coprocessor that is not usable, with its number
 abbrev pub unusable : Coprocessor → Effect
-unusable One = effect.Raise 11 1
-unusable Two = effect.Raise 11 2
+unusable One = effect.Raise codes.coprocessor_unusable 1
+unusable Two = effect.Raise codes.coprocessor_unusable 2
 
 -- ---- the equations
 
@@ -141,8 +142,8 @@ module _ (form : Form) (inst : Inst) (regs : Regs) where
     carried_out MoveToHi = effect.HiLo first regs.lo
     carried_out MoveToLo = effect.HiLo regs.hi first
     carried_out (TrapWhere comparison) = trap_where (holds comparison first second)
-    carried_out SystemCall = exception 8
-    carried_out Breakpoint = exception 9
+    carried_out SystemCall = exception codes.system_call
+    carried_out Breakpoint = exception codes.breakpoint
     carried_out Synchronize = effect.Nothing
     carried_out (Load size signedness) = access touch.Load (Load size signedness)
     carried_out (LoadLeft width) = access touch.Load (LoadLeft width)

@@ -9,6 +9,7 @@ use Rattle.mips3_table.specs.declared.operations.Width.TheVariants.{Word}
 use Rattle.mips3_table.specs.declared.operations.Amount.{Amount}
 use Rattle.mips3_table.specs.declared.operations.Amount.TheVariants.{InFieldPlus32}
 use Rattle.mips3_table.specs.Operands.{widths_of}
+use Rattle.cp0_exceptions.specs.Codes as codes
 use Rattle.mips3_exec.specs.declared.effects.Effect.{Effect}
 use Rattle.mips3_exec.specs.declared.effects.Effect.TheVariants.{Set, Jump, Touch, System, Raise}
 use Rattle.mips3_exec.specs.declared.effects.Touch.{Touch as Kind}
@@ -86,7 +87,8 @@ LeavesSystem operation number _ = Unit {0}
 -- usable, with its number
 abbrev pub is_raised : ℕ → ℕ → Bool
 is_raised code unit =
-    (((code == 8) || (code == 9) || (code == 12) || (code == 13)) && (unit == 0)) || ((code == 11) && ((unit == 1) || (unit == 2)))
+    (((code == codes.system_call) || (code == codes.breakpoint) || (code == codes.overflow) || (code == codes.trap)) && (unit == 0))
+    || ((code == codes.coprocessor_unusable) && ((unit == 1) || (unit == 2)))
 
 abbrev pub RaisesItsOwn : Effect → Type 0
 RaisesItsOwn (Raise code unit) = IsTrue (is_raised code unit)

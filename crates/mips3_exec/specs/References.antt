@@ -9,6 +9,7 @@ use Rattle.mips3_alu.specs.Registers.{register, with_register}
 use Rattle.cp0_regs.specs.Registers.{tag_lo}
 use Rattle.cp0_regs.specs.State.{word, with_word}
 use Rattle.ll_sc.specs.Linking as links
+use Rattle.cp0_exceptions.specs.Codes as codes
 use Rattle.cp0_exceptions.specs.declared.raising.Raised.{Raised}
 use Rattle.mips3_exec.specs.declared.processor.Cpu.{Cpu}
 use Rattle.mips3_exec.specs.declared.effects.Touch.{Touch}
@@ -45,8 +46,8 @@ linked cpu _ pa = cpu
 unfoldable pub loaded : Cpu → Inst → Reference → ℕ → Reply → Talk
 loaded cpu inst r pa (Value bytes) =
     went (with_result (linked cpu r.kind pa) r.reg (loaded_of inst (register cpu.regs r.reg) r.va bytes))
-loaded cpu inst r pa Coherency = trapped cpu (at_address 31 r.va)
-loaded cpu inst r pa _ = trapped cpu (plain 7)
+loaded cpu inst r pa Coherency = trapped cpu (at_address codes.coherency_data r.va)
+loaded cpu inst r pa _ = trapped cpu (plain codes.bus_data)
 
 abbrev pub load_from : Cpu → Inst → Reference → Access → Talk
 load_from cpu inst r access = Ask (request.Load access r.size) (loaded cpu inst r access.pa)
@@ -72,8 +73,8 @@ succeeded cpu _ reg = cpu
 unfoldable pub stored : Cpu → Reference → Reply → Talk
 stored cpu r Stored = went (advanced (succeeded cpu r.kind r.reg))
 stored cpu r (Halt code) = went (advanced (record (succeeded cpu r.kind r.reg) { halt = Some code }))
-stored cpu r Coherency = trapped cpu (at_address 31 r.va)
-stored cpu r _ = trapped cpu (plain 7)
+stored cpu r Coherency = trapped cpu (at_address codes.coherency_data r.va)
+stored cpu r _ = trapped cpu (plain codes.bus_data)
 
 -- a store conditional without the link
 abbrev pub gives_up : Cpu → Touch → Bool
@@ -99,7 +100,7 @@ store cpu inst r =
 -- how a cache operation goes on: TagLo is what it makes of it
 unfoldable pub operated : Cpu → Reply → Talk
 operated cpu (Tag tag) = went (advanced (record cpu { cp0 = with_word cpu.cp0 tag_lo tag }))
-operated cpu _ = trapped cpu (plain 7)
+operated cpu _ = trapped cpu (plain codes.bus_data)
 
 abbrev pub operate_by : Cpu → Reference → Route → Talk
 operate_by cpu r (To pa cached) = Ask (request.Cache (access_of cpu r.va pa cached) r.reg (word cpu.cp0 tag_lo)) (operated cpu)

@@ -5,6 +5,7 @@ use Rattle.std.specs.Prelude.{ℕ, Bool, true, false, Some, None, if◌then◌el
 use Rattle.cp0_regs.specs.Fields.{asid, k0, erl}
 use Rattle.cp0_regs.specs.Modes.{mode_of, is_set, is_quiet}
 use Rattle.cp0_regs.specs.State.{value_of}
+use Rattle.cp0_exceptions.specs.Codes as codes
 use Rattle.cp0_exceptions.specs.declared.raising.Raised.{Raised}
 use Rattle.cp0_exceptions.specs.Causes.{IsRaised}
 use Rattle.tlb_model.specs.declared.translation.Found.{Found}
@@ -34,11 +35,11 @@ at_refill code bad = record { code = code; unit = 0; bad = Some bad; refill = tr
 
 -- an address error: AdEL, or AdES where something is stored
 abbrev pub address_error : Bool → ℕ → Raised
-address_error write bad = at_address (if write then 5 else 4) bad
+address_error write bad = at_address (if write then codes.address_store else codes.address_load) bad
 
 -- a TLB exception: TLBL, or TLBS where something is stored
 abbrev pub tlb_code : Bool → ℕ
-tlb_code write = if write then 3 else 2
+tlb_code write = if write then codes.tlb_store else codes.tlb_load
 
 -- ---- addresses
 
@@ -47,7 +48,7 @@ abbrev pub route_by : Bool → ℕ → Found → Route
 route_by write bad (Page pa cached) = To pa cached
 route_by write bad Refill = Fault (at_refill (tlb_code write) bad)
 route_by write bad Invalid = Fault (at_address (tlb_code write) bad)
-route_by write bad Modified = Fault (at_address 1 bad)
+route_by write bad Modified = Fault (at_address codes.modified bad)
 
 -- by the segment of an address
 abbrev pub route_in : Cpu → Bool → ℕ → ℕ → Seg → Route

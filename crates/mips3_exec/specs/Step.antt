@@ -11,6 +11,7 @@ use Rattle.mips3_table.specs.Rows.{row_at}
 use Rattle.mips3_code.specs.Coding.{decoded}
 use Rattle.mips3_alu.specs.Registers.{with_register}
 use Rattle.cp0_regs.specs.Modes.{is_kernel, has_coprocessor_0, takes_interrupt}
+use Rattle.cp0_exceptions.specs.Codes as codes
 use Rattle.cp0_exceptions.specs.declared.raising.Raised.{Raised}
 use Rattle.mips3_exec.specs.declared.processor.Cpu.{Cpu}
 use Rattle.mips3_exec.specs.declared.effects.Effect.{Effect}
@@ -47,8 +48,8 @@ perform cpu inst (Raise code unit) = trapped cpu (record { code = code; unit = u
 -- unless CU0 is set
 unfoldable pub refusal_of : Cpu → Inst → Option Raised
 refusal_of cpu inst =
-    if not (is_kernel cpu.cp0) && (row_at inst.row).is_64_bit then Some (plain 10)
-    else if not (has_coprocessor_0 cpu.cp0) && is_privileged (operation_of inst) then Some (plain 11)
+    if not (is_kernel cpu.cp0) && (row_at inst.row).is_64_bit then Some (plain codes.reserved_instruction)
+    else if not (has_coprocessor_0 cpu.cp0) && is_privileged (operation_of inst) then Some (plain codes.coprocessor_unusable)
     else None
 
 abbrev pub unless_refused : Cpu → Inst → Option Raised → Talk
@@ -57,7 +58,7 @@ unless_refused cpu inst None = perform cpu inst (effect_of inst cpu.regs cpu.pc)
 
 -- a word that is no instruction of the table is reserved
 abbrev pub carry_out_found : Cpu → Option Inst → Talk
-carry_out_found cpu None = trapped cpu (plain 10)
+carry_out_found cpu None = trapped cpu (plain codes.reserved_instruction)
 carry_out_found cpu (Some inst) = unless_refused cpu inst (refusal_of cpu inst)
 
 -- what a word does
@@ -69,8 +70,8 @@ carry_out cpu code = carry_out_found cpu (decoded code)
 -- how a fetch goes on
 abbrev pub fetched : Cpu → Reply → Talk
 fetched cpu (Value code) = carry_out cpu code
-fetched cpu Coherency = trapped cpu (at_address 14 cpu.pc)
-fetched cpu _ = trapped cpu (plain 6)
+fetched cpu Coherency = trapped cpu (at_address codes.coherency_fetch cpu.pc)
+fetched cpu _ = trapped cpu (plain codes.bus_fetch)
 
 abbrev pub fetch_by : Cpu → Route → Talk
 fetch_by cpu (To pa cached) = Ask (request.Fetch (access_of cpu cpu.pc pa cached)) (fetched cpu)
@@ -84,4 +85,4 @@ fetch cpu =
 
 -- the step: an interrupt comes first
 unfoldable pub step : Cpu → Talk
-step cpu = if takes_interrupt cpu.cp0 then trapped cpu (plain 0) else fetch cpu
+step cpu = if takes_interrupt cpu.cp0 then trapped cpu (plain codes.interrupt) else fetch cpu

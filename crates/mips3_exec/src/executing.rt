@@ -12,6 +12,7 @@ ghost use Rattle.mips3_exec.specs.Ranges.{AlignsByBytes, HasFields, HasRegisters
 use crate::accesses::moved;
 use crate::effects::{Effect, Touch};
 use crate::operands::{address, amount, destination, link_register, link_value, second, target};
+use cp0_exceptions::codes::{BREAKPOINT, COPROCESSOR_UNUSABLE, OVERFLOW, SYSTEM_CALL, TRAP};
 use mips3_alu::{
     Halves, Regs, alu_add, alu_addu, alu_and, alu_dadd, alu_daddu, alu_ddiv, alu_ddivu, alu_div,
     alu_divu, alu_dmult, alu_dmultu, alu_dsll, alu_dsra, alu_dsrl, alu_dsub, alu_dsubu, alu_mult,
@@ -30,17 +31,6 @@ use mips3_table::{
     Width, record_of,
 };
 use r4_words::sext32;
-
-// The codes of the exceptions that instructions raise by themselves.
-const SYSTEM_CALL: u8 = 8;
-
-const BREAKPOINT: u8 = 9;
-
-const COPROCESSOR_UNUSABLE: u8 = 11;
-
-const OVERFLOW: u8 = 12;
-
-const TRAP: u8 = 13;
 
 // Whether a comparison holds of two values.
 fn holds(comparison: Comparison, a: u64, b: u64) -> bool

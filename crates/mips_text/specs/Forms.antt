@@ -6,6 +6,7 @@ use Rattle.mips3_table.specs.declared.operand_forms.Form.{Form}
 use Rattle.mips3_table.specs.declared.operand_forms.Form.TheVariants.{Target, CompareBranch, ZeroBranch, SignedImmediate, UnsignedImmediate, UpperImmediate, Memory, CacheOperation, CoprocessorNumber, CoprocessorMemory, Shift, ShiftByRegister, Source, JumpAndLinkRegister, Code, NoOperands, Destination, TwoSources, ThreeRegisters, TrapRegisters, TrapImmediate, Cp0Move}
 use Rattle.mips3_table.specs.Rows.{row_at}
 use Rattle.mips3_table.specs.Matching.{row_named}
+use Rattle.r4_words.specs.Ascii.{left_parenthesis, right_parenthesis, comma}
 use Rattle.mips_text.specs.declared.token.Token.{Token}
 use Rattle.mips_text.specs.declared.token.TokenKind.{TokenKind}
 use Rattle.mips_text.specs.declared.token.TokenKind.TheVariants.{Name, Number, Text, Mark}
@@ -53,7 +54,7 @@ expected_of Cp0Register = ACp0Register Rd ∷ []
 expected_of (Decimal field width) = ANumber field (Unsigned width) ∷ []
 expected_of (Hexadecimal field width) = ANumber field (Unsigned width) ∷ []
 expected_of Signed = ANumber Imm (WithSign 16) ∷ []
-expected_of Based = ANumber Imm (WithSign 16) ∷ AMark 40 ∷ ARegister Rs ∷ AMark 41 ∷ []
+expected_of Based = ANumber Imm (WithSign 16) ∷ AMark left_parenthesis ∷ ARegister Rs ∷ AMark right_parenthesis ∷ []
 expected_of BranchTarget = ATarget ∷ []
 expected_of JumpTarget = ATarget ∷ []
 
@@ -61,7 +62,7 @@ expected_of JumpTarget = ATarget ∷ []
 abbrev pub separated : List Operand → List Expected
 separated [] = []
 separated (one ∷ []) = expected_of one
-separated (one ∷ next ∷ more) = expected_of one ++ AMark 44 ∷ separated (next ∷ more)
+separated (one ∷ next ∷ more) = expected_of one ++ AMark comma ∷ separated (next ∷ more)
 
 -- What follows a statement's name.
 pub data Shape : Type 0 where
@@ -73,9 +74,9 @@ pub data Shape : Type 0 where
 -- The shape of each statement.
 abbrev pub shape_of : Statement → Shape
 shape_of (Instruction row) = Tokens (separated (operands_of (row_at row).form))
-shape_of Li = Tokens (ARegister Rt ∷ AMark 44 ∷ ANumber Imm (EitherSign 32) ∷ [])
-shape_of La = Tokens (ARegister Rt ∷ AMark 44 ∷ ALabel ∷ [])
-shape_of Move = Tokens (ARegister Rd ∷ AMark 44 ∷ ARegister Rs ∷ [])
+shape_of Li = Tokens (ARegister Rt ∷ AMark comma ∷ ANumber Imm (EitherSign 32) ∷ [])
+shape_of La = Tokens (ARegister Rt ∷ AMark comma ∷ ALabel ∷ [])
+shape_of Move = Tokens (ARegister Rd ∷ AMark comma ∷ ARegister Rs ∷ [])
 shape_of Nop = Tokens []
 shape_of Branch = Tokens (ATarget ∷ [])
 shape_of Org = Tokens (ANumber Imm (Unsigned 32) ∷ [])

@@ -3,9 +3,11 @@
 -- Source: the assembler language of this project, whose statements are the instruction formats of the MIPS R4000
 -- Microprocessor User's Manual, 2nd edition (Heinrich), appendix A, with a part of the further statements and of the
 -- directives of the MIPS assembler.
-use Rattle.std.specs.Prelude.{ℕ, ℤ, pos, negsuc, zero, suc, ◌/◌, ◌==◌, nat_lt, nat_le, Bool, true, false, not, ◌&&◌, ◌||◌, if◌then◌else◌, List, [], ◌∷◌, length, slice_index, slice_get, Option, Some, None, option_map, option_and_then, Result, Ok, Err}
+use Rattle.std.specs.Prelude.{codes, unwrap_or, ℕ, ℤ, pos, negsuc, zero, suc, ◌/◌, ◌==◌, nat_lt, nat_le, Bool, true, false, not, ◌&&◌, ◌||◌, if◌then◌else◌, List, [], ◌∷◌, length, slice_index, slice_get, Option, Some, None, option_map, option_and_then, Result, Ok, Err}
 use Rattle.mips3_table.specs.declared.instruction.Inst.{Inst}
 use Rattle.mips3_table.specs.Rows.{row_at}
+use Rattle.mips3_table.specs.Matching.{row_named}
+use Rattle.r4_words.specs.Ascii.{comma, colon}
 use Rattle.mips_text.specs.declared.reason.AsmWhy.{AsmWhy}
 use Rattle.mips_text.specs.declared.reason.AsmWhy.TheVariants as why
 use Rattle.mips_text.specs.declared.token.Token.{Token}
@@ -40,7 +42,7 @@ Reading = Result Line AsmWhy
 -- a number, and so many further ones with commas before them
 abbrev pub numbers_expected : ℕ → Range → List Expected
 numbers_expected zero range = ANumber Imm range ∷ []
-numbers_expected (suc more) range = ANumber Imm range ∷ AMark 44 ∷ numbers_expected more range
+numbers_expected (suc more) range = ANumber Imm range ∷ AMark comma ∷ numbers_expected more range
 
 -- the tokens that a shape expects where so many stand; of a list of numbers one number or more
 abbrev pub tokens_expected : Shape → ℕ → List Expected
@@ -106,18 +108,22 @@ with_operands line (one ∷ expected) (token ∷ tokens) inst =
 abbrev pub bare : ℕ → Inst
 bare row = record { row = row; rs = 0; rt = 0; rd = 0; sa = 0; imm = 0 }
 
+-- the row of a name that the table has; a name that it has not has the number of no row
+abbrev pub row_called : List ℕ → ℕ
+row_called name = unwrap_or (row_named name) 129
+
 -- the rows that the further statements stand for
-abbrev pub beq_row : ℕ
-beq_row = 2
+unfoldable pub beq_row : ℕ
+beq_row = row_called (codes "beq")
 
-abbrev pub ori_row : ℕ
-ori_row = 17
+unfoldable pub ori_row : ℕ
+ori_row = row_called (codes "ori")
 
-abbrev pub lui_row : ℕ
-lui_row = 19
+unfoldable pub lui_row : ℕ
+lui_row = row_called (codes "lui")
 
-abbrev pub or_row : ℕ
-or_row = 91
+unfoldable pub or_row : ℕ
+or_row = row_called (codes "or")
 
 -- the instruction of a row with the operands of a statement
 abbrev pub inst_of : List ℕ → ℕ → Statement → List Token → Option Inst
@@ -215,7 +221,7 @@ pub record Parts : Type 0 where
 
 -- a token is the mark `:`
 abbrev pub is_colon : TokenKind → List ℕ → Bool
-is_colon Mark text = slice_index text 0 == 58
+is_colon Mark text = slice_index text 0 == colon
 is_colon kind text = false
 
 -- a token is a Name
@@ -227,10 +233,10 @@ is_name kind = false
 abbrev pub parts_of : List ℕ → List Token → Parts
 parts_of line [] = record { label = None; statement = [] }
 parts_of line (token ∷ []) = record { label = None; statement = token ∷ [] }
-parts_of line (name ∷ colon ∷ tokens) =
-    if is_name name.kind && is_colon colon.kind (token_text line colon)
+parts_of line (name ∷ mark ∷ tokens) =
+    if is_name name.kind && is_colon mark.kind (token_text line mark)
     then record { label = Some (token_text line name); statement = tokens }
-    else record { label = None; statement = name ∷ colon ∷ tokens }
+    else record { label = None; statement = name ∷ mark ∷ tokens }
 
 -- a label has at most 64 characters
 abbrev pub is_too_long : Option (List ℕ) → Bool

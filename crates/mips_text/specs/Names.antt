@@ -4,6 +4,7 @@
 use Rattle.std.specs.Prelude.{ℕ, ◌==◌, nat_lt, if◌then◌else◌, List, [], ◌∷◌, drop, slice_index, slice_index_or, Option, Some, None, codes, bytes_eq, position}
 use Rattle.std.specs.Option.{option_or}
 use Rattle.r4_words.specs.Texts.{read_dec}
+use Rattle.r4_words.specs.Ascii.{dollar, small_c}
 
 -- the names of the general registers 0 to 31
 unfoldable pub register_names : List (List ℕ)
@@ -44,8 +45,8 @@ numbered first text = if slice_index text 0 == first then below_32 (read_dec (dr
 
 -- the general register that a text names: by its name, as fp for s8, or as $0 to $31
 unfoldable pub register_of : List ℕ → Option ℕ
-register_of text = if bytes_eq text (codes "fp") then Some 30 else option_or (position (bytes_eq text) register_names) (numbered 36 text)
+register_of text = if bytes_eq text (codes "fp") then Some 30 else option_or (position (bytes_eq text) register_names) (numbered dollar text)
 
 -- the register of coprocessor 0 that a text names: by its name, or as c0 to c31
 unfoldable pub cp0_register_of : List ℕ → Option ℕ
-cp0_register_of text = option_or (position (bytes_eq text) cp0_names) (numbered 99 text)
+cp0_register_of text = option_or (position (bytes_eq text) cp0_names) (numbered small_c text)

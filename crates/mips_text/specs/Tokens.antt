@@ -4,6 +4,7 @@
 use Rattle.std.specs.Prelude.{◌≡◌, ◌<◌, ◌≤◌, ℕ, zero, suc, ◌+◌, ◌-◌, ◌==◌, nat_lt, nat_le, Bool, true, false, ◌&&◌, ◌||◌, if◌then◌else◌, List, [], ◌∷◌, length, take, drop, slice_index, Option, Some, None}
 use Rattle.std.specs.List.{prefix_len}
 use Rattle.r4_words.specs.Texts.{is_digit}
+use Rattle.r4_words.specs.Ascii.{tab, carriage_return, blank, quote, hash, dollar, left_parenthesis, right_parenthesis, comma, minus, dot, digit_0, colon, capital_a, capital_f, capital_z, backslash, underscore, small_a, small_f, small_x, small_z}
 use Rattle.mips_text.specs.declared.reason.AsmWhy.{AsmWhy}
 use Rattle.mips_text.specs.declared.reason.AsmWhy.TheVariants.{Unknown, Operand}
 use Rattle.mips_text.specs.declared.token.Token.{Token}
@@ -14,19 +15,22 @@ use Rattle.mips_text.specs.declared.token.Start.TheVariants.{Blank, Comment, Beg
 
 -- a blank or a tab
 abbrev pub is_blank : ℕ → Bool
-is_blank code = (code == 32) || (code == 9)
+is_blank code = (code == blank) || (code == tab)
 
 -- `,` `:` `(` `)`
 abbrev pub is_mark : ℕ → Bool
-is_mark code = (code == 44) || (code == 58) || (code == 40) || (code == 41)
+is_mark code = (code == comma) || (code == colon) || (code == left_parenthesis) || (code == right_parenthesis)
 
 -- 0-9, A-F or a-f
 abbrev pub is_hex_digit : ℕ → Bool
-is_hex_digit code = is_digit code || (nat_le 65 code && nat_le code 70) || (nat_le 97 code && nat_le code 102)
+is_hex_digit code =
+    is_digit code || (nat_le capital_a code && nat_le code capital_f) || (nat_le small_a code && nat_le code small_f)
 
 -- what a name begins with: A-Z, a-z, `_` or `.`
 abbrev pub is_name_start : ℕ → Bool
-is_name_start code = (nat_le 65 code && nat_le code 90) || (nat_le 97 code && nat_le code 122) || (code == 95) || (code == 46)
+is_name_start code =
+    (nat_le capital_a code && nat_le code capital_z) || (nat_le small_a code && nat_le code small_z)
+    || (code == underscore) || (code == dot)
 
 -- what a name goes on with
 abbrev pub is_name_byte : ℕ → Bool
@@ -34,7 +38,8 @@ is_name_byte code = is_name_start code || is_digit code
 
 -- a text begins with `0x` and a hexadecimal digit
 abbrev pub is_hexadecimal : List ℕ → Bool
-is_hexadecimal text = (slice_index text 0 == 48) && (slice_index text 1 == 120) && is_hex_digit (slice_index text 2)
+is_hexadecimal text =
+    (slice_index text 0 == digit_0) && (slice_index text 1 == small_x) && is_hex_digit (slice_index text 2)
 
 -- How many bytes the number has that a text begins with, without a sign: `0x` and all hexadecimal digits after it, or
 -- all decimal digits. So `0x` without a hexadecimal digit is the number 0 and a name.
@@ -51,7 +56,7 @@ one_more None = None
 abbrev pub quoted_length : Bool → List ℕ → Option ℕ
 quoted_length taken [] = None
 quoted_length true (code ∷ rest) = one_more (quoted_length false rest)
-quoted_length false (code ∷ rest) = if code == 34 then Some 1 else one_more (quoted_length (code == 92) rest)
+quoted_length false (code ∷ rest) = if code == quote then Some 1 else one_more (quoted_length (code == backslash) rest)
 
 -- a text in quotes that is closed, by its length after the opening quote
 abbrev pub quoted : Option ℕ → Start
@@ -63,13 +68,13 @@ quoted None = Refused Operand
 unfoldable pub start_of : List ℕ → Start
 start_of text =
     if is_blank (slice_index text 0) then Blank
-    else if slice_index text 0 == 35 then Comment
+    else if slice_index text 0 == hash then Comment
     else if is_mark (slice_index text 0) then Begins Mark 1
-    else if slice_index text 0 == 34 then quoted (quoted_length false (drop 1 text))
+    else if slice_index text 0 == quote then quoted (quoted_length false (drop 1 text))
     else if is_digit (slice_index text 0) then Begins Number (number_length text)
     else if is_name_start (slice_index text 0) then Begins Name (prefix_len is_name_byte text)
-    else if (slice_index text 0 == 45) && is_digit (slice_index text 1) then Begins Number (1 + number_length (drop 1 text))
-    else if (slice_index text 0 == 36) && is_digit (slice_index text 1) then Begins Name (1 + prefix_len is_digit (drop 1 text))
+    else if (slice_index text 0 == minus) && is_digit (slice_index text 1) then Begins Number (1 + number_length (drop 1 text))
+    else if (slice_index text 0 == dollar) && is_digit (slice_index text 1) then Begins Name (1 + prefix_len is_digit (drop 1 text))
     else Refused Unknown
 
 -- a token that begins a text of so many bytes has one of them at least, and no more than there are
@@ -125,7 +130,7 @@ cut_from (suc inside) at (code ∷ rest) = cut_from inside (at + 1) rest
 
 -- a line without the carriage return at its end, where one stands there
 abbrev pub without_return : List ℕ → List ℕ
-without_return line = if slice_index line (length line - 1) == 13 then take (length line - 1) line else line
+without_return line = if slice_index line (length line - 1) == carriage_return then take (length line - 1) line else line
 
 -- at most so many tokens: one more is refused
 abbrev pub at_most : ℕ → Cut → Cut

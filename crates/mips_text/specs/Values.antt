@@ -3,6 +3,7 @@
 use Rattle.std.specs.Prelude.{◌≡◌, ◌<◌, ◌≤◌, ℕ, ℤ, pos, neg_ℤ, nat_abs, zero, suc, ◌-◌, ◌^◌, ◌==◌, nat_lt, Bool, true, false, if◌then◌else◌, List, [], ◌∷◌, ◌++◌, map, length, take, drop, slice_index, Option, Some, None, codes}
 use Rattle.std.specs.Int.Digits.{digits_of}
 use Rattle.r4_words.specs.Texts.{dec_of, digit_of, number_after}
+use Rattle.r4_words.specs.Ascii.{newline, quote, minus, digit_0, backslash, small_n}
 use Rattle.mips_text.specs.Tokens.{is_hexadecimal}
 
 -- the number of digits without a sign: hexadecimal after `0x`, else decimal
@@ -11,7 +12,7 @@ magnitude_of text = if is_hexadecimal text then number_after 16 0 (drop 2 text) 
 
 -- the number of a Number token's text
 unfoldable pub number_of : List ℕ → ℤ
-number_of text = if slice_index text 0 == 45 then neg_ℤ (pos (magnitude_of (drop 1 text))) else pos (magnitude_of text)
+number_of text = if slice_index text 0 == minus then neg_ℤ (pos (magnitude_of (drop 1 text))) else pos (magnitude_of text)
 
 -- a number below 2 ^ 32
 abbrev pub small : ℕ → Option ℕ
@@ -25,10 +26,10 @@ bounded n = if nat_lt (nat_abs n) (2 ^ 32) then Some n else None
 -- what stands for the byte after a backslash: `\n`, `\0`, `\\` and `\"`
 abbrev pub escaped : ℕ → Option ℕ
 escaped code =
-    if code == 110 then Some 10
-    else if code == 48 then Some 0
-    else if code == 92 then Some 92
-    else if code == 34 then Some 34
+    if code == small_n then Some newline
+    else if code == digit_0 then Some 0
+    else if code == backslash then Some backslash
+    else if code == quote then Some quote
     else None
 
 -- a byte before others, where both are there
@@ -43,7 +44,7 @@ abbrev pub unescaped : Bool → List ℕ → Option (List ℕ)
 unescaped true [] = None
 unescaped false [] = Some []
 unescaped true (code ∷ rest) = with_byte (escaped code) (unescaped false rest)
-unescaped false (code ∷ rest) = if code == 92 then unescaped true rest else with_byte (Some code) (unescaped false rest)
+unescaped false (code ∷ rest) = if code == backslash then unescaped true rest else with_byte (Some code) (unescaped false rest)
 
 -- what stands between the quotes of a text that has both
 abbrev pub inside : List ℕ → List ℕ
@@ -61,7 +62,7 @@ pub record BeginsWith (text : List ℕ) (byte used : ℕ) : Type 0 where
 
 -- hexadecimal digits in lower case, the high one first and none of them a leading zero; "0" for 0
 unfoldable pub hex_digits_of : ℕ → List ℕ
-hex_digits_of zero = 48 ∷ []
+hex_digits_of zero = digit_0 ∷ []
 hex_digits_of (suc n) = map digit_of (digits_of 16 (suc n))
 
 -- a number as `0x` and its hexadecimal digits

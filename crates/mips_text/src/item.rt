@@ -134,9 +134,7 @@ impl<'a> Bytes<'a> {
     pub fn of_text(text: &'a [u8]) -> Option<Self>
         ensures { result ≡ bytes_of_text text.now }
     {
-        if text_size(text).is_none() {
-            return None;
-        }
+        text_size(text)?;
         Some(Bytes {
             source: Source::Text(text),
         })

@@ -59,8 +59,7 @@ pub fn register_of(text: &[u8]) -> Option<u8>
     ensures value { result ≡ names.register_of text.now }
     ensures small { IfSome result (λ register. register < 32) }
 {
-    let is_fp = reads(text, "fp");
-    if is_fp {
+    if reads(text, "fp") {
         return Some(30);
     }
     match named_register(text) {
@@ -126,14 +125,8 @@ pub fn number_of(text: &[u8]) -> Option<i64>
     ensures { result ≡ values.bounded (values.number_of text.now) }
 {
     if byte_at(text, 0) == b'-' {
-        match magnitude_of(rest_from(text, 1)) {
-            Some(magnitude) => Some(-i64::from(magnitude)),
-            None => None,
-        }
+        Some(-i64::from(magnitude_of(rest_from(text, 1))?))
     } else {
-        match magnitude_of(text) {
-            Some(magnitude) => Some(i64::from(magnitude)),
-            None => None,
-        }
+        Some(i64::from(magnitude_of(text)?))
     }
 }

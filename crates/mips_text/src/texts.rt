@@ -47,10 +47,8 @@ fn piece_of(text: &[u8]) -> Option<Piece>
             used: 1,
         });
     }
-    match escaped(byte_at(text, 1)) {
-        Some(byte) => Some(Piece { byte, used: 2 }),
-        None => None,
-    }
+    let byte = escaped(byte_at(text, 1))?;
+    Some(Piece { byte, used: 2 })
 }
 
 /// How many bytes a Text token's text stands for. None where a backslash stands before a byte that it does not escape.
