@@ -1,8 +1,8 @@
 //! The parts of a pause: a tick without a step, and the processor as the handler of a coherency exception leaves it.
 
 ghost use Rattle.std.specs.Prelude.{◌≡◌, ◌<◌, ◌+◌};
-ghost use Rattle.flat_machine.specs.Pause as law;
 ghost use Rattle.cp0_exceptions.specs.Raising.{return_address};
+ghost use Rattle.mips3_exec.specs.Pausing as law;
 ghost use Rattle.mips3_exec.specs.Talk.{hold};
 
 use cp0_exceptions::codes::{COHERENCY_DATA, COHERENCY_FETCH};
@@ -26,7 +26,7 @@ pub fn pause_length(fetch: bool) -> u32
 }
 
 /// Makes a tick without a step.
-#[tactic(auto, unfolding(crate::specs::Pause::pause_talk))]
+#[tactic(auto, unfolding(mips3_exec::specs::Pausing::pause_talk))]
 pub fn make_pause_tick<M: MemorySystem>(cpu: &mut Cpu, memory: &mut M)
     requires { cpu.old.ticks < 4294967295 }
     ensures cpu { cpu.new ≡ (hold M.ask_gives memory.old (law.pause_talk cpu.old)).cpu }
@@ -74,7 +74,7 @@ fn handle_cp0(cp0: &mut Cp0, pc: u32, slot: bool, fetch: bool, va: u32)
 }
 
 /// Leaves the processor as the handler does: it goes on from EPC, in no delay slot, and the link is broken.
-#[tactic(auto, unfolding(crate::specs::Pause::handled))]
+#[tactic(auto, unfolding(mips3_exec::specs::Pausing::handled))]
 pub fn handle(cpu: &mut Cpu, fetch: bool, va: u32)
     ensures handled { cpu.new ≡ law.handled fetch va cpu.old }
     ensures ticks { cpu.new.ticks ≡ cpu.old.ticks }

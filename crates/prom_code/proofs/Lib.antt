@@ -1,0 +1,16 @@
+pub mod HandlerWords
+pub mod Frames
+pub mod CauseBits
+pub mod Instructions
+pub mod AnyTick
+pub mod Handling
+pub mod Serving
+pub mod Due
+pub mod Handler
+pub mod CacheTick
+pub mod Sequence
+pub mod Opening
+pub mod Opened
+pub mod Coherency
+pub mod SameRoute
+pub mod Near

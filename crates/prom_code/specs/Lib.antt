@@ -1,0 +1,2 @@
+pub mod PromWords
+pub mod HandlerOf
