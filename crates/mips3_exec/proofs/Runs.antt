@@ -1,11 +1,12 @@
 -- How a run goes on, and what every state of it keeps. These laws look at no instruction.
 use Rattle.std.proofs.Common.{◌≡◌, ◌<◌, ◌+◌, ◌∙◌, ℕ, zero, suc, true, false, refl, ap, sym, arith, List, [], ◌++◌, Option, Some, None}
+use Rattle.mips3_exec.specs.declared.processor.Cpu.{Cpu}
 use Rattle.mips3_exec.specs.declared.talk.Request.{Request}
 use Rattle.mips3_exec.specs.declared.ticking.Tick.{Tick}
 use Rattle.mips3_exec.specs.declared.ticking.Tick.TheVariants.{Ran, Trapped, Halted}
 use Rattle.mips3_exec.specs.Talk.{Outcome}
-use Rattle.mips3_exec.specs.Tick.{Ticked, goes_on}
-use Rattle.mips3_exec.specs.Run.{Moved, stays, gathered_before, rest_of, moves_of, State, left_by, tick_from, halt_by, tick_move, gathered, nothing, answer_by, ended, run_of}
+use Rattle.mips3_exec.specs.Tick.{Ticked, goes_on, tick_of}
+use Rattle.mips3_exec.specs.Run.{Moved, stays, gathered_before, rest_of, moves_of, State, left_by, tick_from, halt_by, tick_move, gathered, nothing, ended, run_of}
 
 -- ---- moves
 
@@ -46,16 +47,31 @@ module _ {S E X : Type 0} (move : S → Moved S E X) where
 
 -- ---- ticks
 
--- a tick after which a run goes on does not end it, and another one does, with its answer
-goes : (answer : Tick) → goes_on answer ≡ true → halt_by answer ≡ None
-goes Ran on = refl
-goes (Trapped code) on = refl
-goes (Halted code) on = absurd cc
+-- a tick after which a run goes on does not end it
+pub goes_with : (answer : Tick) → goes_on answer ≡ true → halt_by answer ≡ None
+goes_with Ran on = refl
+goes_with (Trapped code) on = refl
+goes_with (Halted code) on = absurd cc
 
-pub stops_with : (answer : Tick) → goes_on answer ≡ false → answer_by (halt_by answer) ≡ answer
-stops_with Ran off = absurd cc
-stops_with (Trapped code) off = absurd cc
-stops_with (Halted code) off = refl
+-- and another one does, with its halt code
+pub record HaltsWith (answer : Tick) : Type 0 where
+  pub code : ℕ
+  pub is : answer ≡ Halted code
+
+pub halts_with : (answer : Tick) → goes_on answer ≡ false → HaltsWith answer
+halts_with Ran off = absurd cc
+halts_with (Trapped code) off = absurd cc
+halts_with (Halted code) off = record { code = code; is = refl }
+
+-- the parts of two ends that are the same
+pub same_answer : {M : Type 0} (one other : Ticked M) → one ≡ other → one.answer ≡ other.answer
+same_answer {M = M} one other is = ap (λ (t : Ticked M). t.answer) is
+
+pub same_cpu : {M : Type 0} (one other : Ticked M) → one ≡ other → one.cpu ≡ other.cpu
+same_cpu {M = M} one other is = ap (λ (t : Ticked M). t.cpu) is
+
+pub same_memory : {M : Type 0} (one other : Ticked M) → one ≡ other → one.memory ≡ other.memory
+same_memory {M = M} one other is = ap (λ (t : Ticked M). t.memory) is
 
 module _ {M : Type 0} (ask : M → Request → Outcome M) where
   -- no tick is left
@@ -67,25 +83,38 @@ module _ {M : Type 0} (ask : M → Request → Outcome M) where
   pub run_ran : (n k : ℕ) (state : State M) → n ≡ k + 1 → goes_on (tick_from ask state).answer ≡ true
       → run_of ask n state ≡ run_of ask k (left_by (tick_from ask state))
   unfolding run_of
-  run_ran n k state e on = ap ended (moves_on (tick_move ask nothing) n k state e (goes (tick_from ask state).answer on))
+  run_ran n k state e on = ap ended (moves_on (tick_move ask nothing) n k state e (goes_with (tick_from ask state).answer on))
 
   -- the first tick is the last
   pub run_stopped : (n : ℕ) (state : State M) → 0 < n → goes_on (tick_from ask state).answer ≡ false → run_of ask n state ≡ tick_from ask state
-  unfolding run_of moves_of
-  run_stopped zero state lt off = absurd (omega arith)
-  run_stopped (suc n) state lt off = by_answer (tick_from ask state) off
-    where
-      by_answer : (ticked : Ticked M) → goes_on ticked.answer ≡ false
-          → ended (gathered_before [] (rest_of (moves_of (tick_move ask nothing) n) (left_by ticked) (halt_by ticked.answer))) ≡ ticked
-      by_answer ticked off = by_tick ticked.answer refl
-        where
-          by_tick : (answer : Tick) → ticked.answer ≡ answer
-              → ended (gathered_before [] (rest_of (moves_of (tick_move ask nothing) n) (left_by ticked) (halt_by ticked.answer))) ≡ ticked
-          by_tick Ran is = absurd cc
-          by_tick (Trapped code) is = absurd cc
-          by_tick (Halted code) is =
-              ap (λ answer. ended (gathered_before [] (rest_of (moves_of (tick_move ask nothing) n) (left_by ticked) (halt_by answer)))) is
-              ∙ ap (λ answer. record { cpu = ticked.cpu; memory = ticked.memory; answer = answer }) (sym is)
+  unfolding run_of
+  run_stopped n state lt off =
+      let ticked : Ticked M = tick_from ask state in
+      let halts : HaltsWith ticked.answer = halts_with ticked.answer off in
+      ap ended (moves_end (tick_move ask nothing) n state halts.code lt (ap halt_by halts.is))
+      ∙ ap (λ answer. record { cpu = ticked.cpu; memory = ticked.memory; answer = answer }) (sym halts.is)
+
+  -- what is known of a processor, a memory system and an answer after a tick
+  pub record HasTicked (cpu : Cpu) (memory : M) (cpu-after : Cpu) (memory-after : M) (answer : Tick) : Type 0 where
+    pub cpu_is : cpu-after ≡ (tick_of ask memory cpu).cpu
+    pub memory_is : memory-after ≡ (tick_of ask memory cpu).memory
+    pub answer_is : answer ≡ (tick_of ask memory cpu).answer
+
+  -- the run goes on from there, or has come to its end
+  pub runs_from : (n k : ℕ) (cpu cpu-after : Cpu) (memory memory-after : M) (answer : Tick) → HasTicked cpu memory cpu-after memory-after answer → n ≡ k + 1
+      → goes_on answer ≡ true → run_of ask n (record { cpu = cpu; memory = memory }) ≡ run_of ask k (record { cpu = cpu-after; memory = memory-after })
+  runs_from n k cpu cpu-after memory memory-after answer is e on =
+      run_ran n k (record { cpu = cpu; memory = memory }) e (ap goes_on (sym is.answer_is) ∙ on)
+      ∙ ap (λ (c : Cpu). run_of ask k (record { cpu = c; memory = (tick_of ask memory cpu).memory })) (sym is.cpu_is)
+      ∙ ap (λ (m : M). run_of ask k (record { cpu = cpu-after; memory = m })) (sym is.memory_is)
+
+  pub ends_there : (n : ℕ) (cpu cpu-after : Cpu) (memory memory-after : M) (answer : Tick) → HasTicked cpu memory cpu-after memory-after answer → 0 < n
+      → goes_on answer ≡ false → run_of ask n (record { cpu = cpu; memory = memory }) ≡ record { cpu = cpu-after; memory = memory-after; answer = answer }
+  ends_there n cpu cpu-after memory memory-after answer is lt off =
+      run_stopped n (record { cpu = cpu; memory = memory }) lt (ap goes_on (sym is.answer_is) ∙ off)
+      ∙ ap (λ (c : Cpu). record { cpu = c; memory = (tick_of ask memory cpu).memory; answer = (tick_of ask memory cpu).answer }) (sym is.cpu_is)
+      ∙ ap (λ (m : M). record { cpu = cpu-after; memory = m; answer = (tick_of ask memory cpu).answer }) (sym is.memory_is)
+      ∙ ap (λ (a : Tick). record { cpu = cpu-after; memory = memory-after; answer = a }) (sym is.answer_is)
 
   module _ {X : Type 0} (told : State M → List X) where
     pub gathered_none : (n : ℕ) (state : State M) → n ≡ 0 → gathered ask told n state ≡ []
@@ -96,7 +125,7 @@ module _ {M : Type 0} (ask : M → Request → Outcome M) where
         → gathered ask told n state ≡ told state ++ gathered ask told k (left_by (tick_from ask state))
     unfolding gathered
     gathered_ran n k state e on =
-        ap (λ (moved : Moved (State M) ℕ X). moved.gathered) (moves_on (tick_move ask told) n k state e (goes (tick_from ask state).answer on))
+        ap (λ (moved : Moved (State M) ℕ X). moved.gathered) (moves_on (tick_move ask told) n k state e (goes_with (tick_from ask state).answer on))
 
     rest_same : (one : State M → Moved (State M) ℕ X) (other : State M → Moved (State M) ℕ (Unit {0})) → ((state : State M) → ended (one state) ≡ ended (other state))
         → (state : State M) (end : Option ℕ) → ended (rest_of one state end) ≡ ended (rest_of other state end)
