@@ -10,3 +10,4 @@ pub mod SystemControl
 pub mod Step
 pub mod Tick
 pub mod Pausing
+pub mod Run
