@@ -238,6 +238,23 @@ impl Tables {
         false
     }
 
+    // Whether the granule is dirty at no colour, and each copy of it in either cache is old.
+    #[inline]
+    pub(crate) fn is_left(&mut self, granule: u32) -> bool
+        requires { granule < (grid_of self.old.shape).whole }
+        ensures is { result ≡ true → IsLeft self.old granule }
+        ensures reads { Reads self.old self.new }
+    {
+        for colour in 0..self.colours {
+            let mark = self.data_mark(granule, colour);
+            let copy = self.instruction_mark(granule, colour);
+            if mark.dirty || mark.held && !mark.old || copy.held && !copy.old {
+                return false;
+            }
+        }
+        true
+    }
+
     // Whether one of so many granules may be dirty.
     pub(crate) fn is_any_dirty(&mut self, first: u32, count: u32) -> bool
         requires { first + count ≤ (grid_of self.old.shape).whole }
