@@ -8,10 +8,14 @@ use Rattle.line_moves.specs.declared.places.Held.{Held}
 use Rattle.line_moves.specs.Lines.{holds}
 use Rattle.line_moves.specs.Moves.{back, discard, discard_parts, discard_whole, forge, in_secondary, is_under_other_pidx, mark, out_at, ready_below, write_below_at, write_back}
 use Rattle.line_moves.proofs.Parts.{SameShape, shape_if, back_shape, discard_shape, discard_parts_shape, discard_whole_shape, fill_shape, forge_shape, mark_shape, out_shape, ready_below_shape, set_pidx_shape, write_below_at_shape, write_back_shape}
-use Rattle.cache_ops.specs.declared.operations.Operands.{Operands}
-use Rattle.cache_ops.specs.declared.operations.Operation.{Operation}
-use Rattle.cache_ops.specs.declared.operations.Operation.TheVariants.{IndexInvalidateI, IndexWritebackInvalidateD, IndexWritebackInvalidateSD, IndexLoadTagI, IndexLoadTagD, IndexLoadTagSD, IndexStoreTagI, IndexStoreTagD, IndexStoreTagSD, CreateDirtyExclusiveD, CreateDirtyExclusiveSD, HitInvalidateI, HitInvalidateD, HitInvalidateSD, FillI, HitWritebackInvalidateD, HitWritebackInvalidateSD, HitWritebackI, HitWritebackD, HitWritebackSD, HitSetVirtualSD}
-use Rattle.cache_ops.specs.Operations.{i_place, d_place, s_place, number_of, where_hit, where_in_ram, where_no_other_pidx, where_secondary, where_secondary_hit, state_field, secondary_state_field, made_by, secondary_made_by, store_tag, store_secondary_tag, create_dirty, create_secondary, refill, set_virtual, operated, operation_of, outcome, outcome_of}
+use Rattle.cache_codes.specs.Codes.{code_of}
+use Rattle.cache_codes.specs.declared.codes.Cache.{Cache}
+use Rattle.cache_codes.specs.declared.codes.Cache.TheVariants.{PrimaryInstruction, PrimaryData, SecondaryInstruction, SecondaryData}
+use Rattle.cache_codes.specs.declared.codes.CacheCode.{CacheCode}
+use Rattle.cache_codes.specs.declared.codes.Verb.{Verb}
+use Rattle.cache_codes.specs.declared.codes.Verb.TheVariants.{IndexWritebackInvalidate, IndexLoadTag, IndexStoreTag, CreateDirtyExclusive, HitInvalidate, HitWritebackInvalidate, HitWriteback, HitSetVirtual}
+use Rattle.cache_ops.specs.declared.operands.Operands.{Operands}
+use Rattle.cache_ops.specs.Operations.{i_place, d_place, s_place, number_of, where_hit, where_in_ram, where_no_other_pidx, where_secondary, where_secondary_hit, state_field, secondary_state_field, made_by, secondary_made_by, store_tag, store_secondary_tag, create_dirty, create_secondary, refill, set_virtual, on_instructions, on_data, on_secondary, operated, outcome, outcome_of}
 
 -- ---- moves under a condition
 
@@ -74,36 +78,50 @@ virtual_shape o m =
 
 -- ---- each operation
 
-pub operated_shape : (operation : Operation) (o : Operands) (m : Hier) → SameShape (operated operation o m) m
-operated_shape IndexInvalidateI o m = discard_shape (i_place o m) m
-operated_shape IndexWritebackInvalidateD o m = evict_shape (d_place o m) m
-operated_shape IndexWritebackInvalidateSD o m = secondary_shape (out_at o.pa) m (out_shape (s_place o m).index m)
-operated_shape IndexLoadTagI o m = refl
-operated_shape IndexLoadTagD o m = refl
-operated_shape IndexLoadTagSD o m = refl
-operated_shape IndexStoreTagI o m = tag_shape (i_place o m) o.tag m
-operated_shape IndexStoreTagD o m = tag_shape (d_place o m) o.tag m
-operated_shape IndexStoreTagSD o m = secondary_shape (store_secondary_tag o) m (secondary_tag_shape o m)
-operated_shape CreateDirtyExclusiveD o m =
+instructions_shape : (verb : Verb) (o : Operands) (m : Hier) → SameShape (on_instructions verb o m) m
+instructions_shape IndexWritebackInvalidate o m = discard_shape (i_place o m) m
+instructions_shape IndexLoadTag o m = refl
+instructions_shape IndexStoreTag o m = tag_shape (i_place o m) o.tag m
+instructions_shape CreateDirtyExclusive o m = refl
+instructions_shape HitInvalidate o m = hit_shape (i_place o m) o (discard (i_place o m)) m (discard_shape (i_place o m) m)
+instructions_shape HitWritebackInvalidate o m =
+    ram_shape o (where_no_other_pidx o (refill o)) m (no_other_pidx_shape o (refill o) m (refill_shape o m))
+instructions_shape HitWriteback o m = hit_shape (i_place o m) o (write_below_at (i_place o m)) m (write_below_at_shape (i_place o m) m)
+instructions_shape HitSetVirtual o m = refl
+
+data_shape : (verb : Verb) (o : Operands) (m : Hier) → SameShape (on_data verb o m) m
+data_shape IndexWritebackInvalidate o m = evict_shape (d_place o m) m
+data_shape IndexLoadTag o m = refl
+data_shape IndexStoreTag o m = tag_shape (d_place o m) o.tag m
+data_shape CreateDirtyExclusive o m =
     ram_shape o (where_no_other_pidx o (create_dirty o)) m (no_other_pidx_shape o (create_dirty o) m (create_shape o m))
-operated_shape CreateDirtyExclusiveSD o m =
-    secondary_shape (where_in_ram o (create_secondary o)) m (ram_shape o (create_secondary o) m (create_secondary_shape o m))
-operated_shape HitInvalidateI o m = hit_shape (i_place o m) o (discard (i_place o m)) m (discard_shape (i_place o m) m)
-operated_shape HitInvalidateD o m = hit_shape (d_place o m) o (discard (d_place o m)) m (discard_shape (d_place o m) m)
-operated_shape HitInvalidateSD o m =
-    secondary_hit_shape o (discard_whole (s_place o m).index) m (discard_whole_shape (s_place o m).index m)
-operated_shape FillI o m = ram_shape o (where_no_other_pidx o (refill o)) m (no_other_pidx_shape o (refill o) m (refill_shape o m))
-operated_shape HitWritebackInvalidateD o m =
+data_shape HitInvalidate o m = hit_shape (d_place o m) o (discard (d_place o m)) m (discard_shape (d_place o m) m)
+data_shape HitWritebackInvalidate o m =
     hit_shape (d_place o m) o (λ m. discard (d_place o m) (back (d_place o m) m)) m (evict_shape (d_place o m) m)
-operated_shape HitWritebackInvalidateSD o m = secondary_hit_shape o (out_at o.pa) m (out_shape (s_place o m).index m)
-operated_shape HitWritebackI o m = hit_shape (i_place o m) o (write_below_at (i_place o m)) m (write_below_at_shape (i_place o m) m)
-operated_shape HitWritebackD o m = hit_shape (d_place o m) o (back (d_place o m)) m (back_shape (d_place o m) m)
-operated_shape HitWritebackSD o m = secondary_hit_shape o (write_back (s_place o m).index) m (write_back_shape (s_place o m).index m)
-operated_shape HitSetVirtualSD o m = secondary_hit_shape o (set_virtual o) m (virtual_shape o m)
+data_shape HitWriteback o m = hit_shape (d_place o m) o (back (d_place o m)) m (back_shape (d_place o m) m)
+data_shape HitSetVirtual o m = refl
+
+on_secondary_shape : (verb : Verb) (o : Operands) (m : Hier) → SameShape (on_secondary verb o m) m
+on_secondary_shape IndexWritebackInvalidate o m = secondary_shape (out_at o.pa) m (out_shape (s_place o m).index m)
+on_secondary_shape IndexLoadTag o m = refl
+on_secondary_shape IndexStoreTag o m = secondary_shape (store_secondary_tag o) m (secondary_tag_shape o m)
+on_secondary_shape CreateDirtyExclusive o m =
+    secondary_shape (where_in_ram o (create_secondary o)) m (ram_shape o (create_secondary o) m (create_secondary_shape o m))
+on_secondary_shape HitInvalidate o m =
+    secondary_hit_shape o (discard_whole (s_place o m).index) m (discard_whole_shape (s_place o m).index m)
+on_secondary_shape HitWritebackInvalidate o m = secondary_hit_shape o (out_at o.pa) m (out_shape (s_place o m).index m)
+on_secondary_shape HitWriteback o m = secondary_hit_shape o (write_back (s_place o m).index) m (write_back_shape (s_place o m).index m)
+on_secondary_shape HitSetVirtual o m = secondary_hit_shape o (set_virtual o) m (virtual_shape o m)
+
+pub operated_shape : (cache : Cache) (verb : Verb) (o : Operands) (m : Hier) → SameShape (operated cache verb o m) m
+operated_shape PrimaryInstruction verb o m = instructions_shape verb o m
+operated_shape PrimaryData verb o m = data_shape verb o m
+operated_shape SecondaryInstruction verb o m = refl
+operated_shape SecondaryData verb o m = on_secondary_shape verb o m
 
 pub outcome_shape : (code va pa tag : ℕ) (m : Hier) → SameShape (outcome code va pa tag m).memory m
-outcome_shape code va pa tag m = on (operation_of code)
+outcome_shape code va pa tag m = on (code_of code)
   where
-    on : (o : Option Operation) → SameShape (outcome_of o (record { va = va; pa = pa; tag = tag }) m).memory m
+    on : (o : Option CacheCode) → SameShape (outcome_of o (record { va = va; pa = pa; tag = tag }) m).memory m
     on None = refl
-    on (Some operation) = operated_shape operation (record { va = va; pa = pa; tag = tag }) m
+    on (Some code) = operated_shape code.cache code.verb (record { va = va; pa = pa; tag = tag }) m

@@ -1,20 +1,18 @@
 -- The operations of the CACHE instruction, as far as the rules tell them apart on a machine without a secondary cache.
--- Source: MIPS R4000 Microprocessor User's Manual (Heinrich, 2nd edition), appendix A, CACHE: bits 20:18 of the instruction
--- have the operation, bits 17:16 the cache, 0 the primary instruction cache and 1 the primary data cache; chapter 11 for TagLo.
--- Which of them are Forge and Peek is this project's own.
-use Rattle.std.specs.Prelude.{ℕ, ◌+◌, ◌*◌, ◌/◌, ◌%◌, ◌^◌, ◌==◌, not, Bool, true, false, if◌then◌else◌}
+-- Source: MIPS R4000 Microprocessor User's Manual (Heinrich, 2nd edition), appendix A, CACHE; chapter 11 for TagLo. Which of them are
+-- Forge and Peek is this project's own.
+use Rattle.std.specs.Prelude.{ℕ, ◌/◌, ◌%◌, ◌^◌, ◌==◌, not, Bool, true, false, Option, Some, None, if◌then◌else◌}
+use Rattle.cache_codes.specs.Codes.{code_of}
+use Rattle.cache_codes.specs.declared.codes.Cache.{Cache}
+use Rattle.cache_codes.specs.declared.codes.Cache.TheVariants.{PrimaryInstruction, PrimaryData, SecondaryInstruction, SecondaryData}
+use Rattle.cache_codes.specs.declared.codes.CacheCode.{CacheCode}
+use Rattle.cache_codes.specs.declared.codes.Verb.{Verb}
+use Rattle.cache_codes.specs.declared.codes.Verb.TheVariants as verb
 use Rattle.rule_ledger.specs.declared.operations.IndexOperation.{IndexOperation}
 use Rattle.rule_ledger.specs.declared.operations.IndexOperation.TheVariants.{InvalidateI, WritebackInvalidateD, StoreTagD}
 use Rattle.rule_ledger.specs.declared.operations.HitOperation.TheVariants.{HitInvalidateI, HitInvalidateD, FillI, HitWritebackInvalidateD, HitWritebackD}
 use Rattle.rule_ledger.specs.declared.operations.Operation.{Operation}
 use Rattle.rule_ledger.specs.declared.operations.Operation.TheVariants.{Index, Hit, Forge, Peek, Nothing}
-
--- the code of an operation on a primary cache
-abbrev pub on_i : ℕ → ℕ
-on_i operation = operation * 4
-
-abbrev pub on_d : ℕ → ℕ
-on_d operation = operation * 4 + 1
 
 -- the state in TagLo, bits 7:6, is a valid one
 abbrev pub is_valid : ℕ → Bool
@@ -24,24 +22,43 @@ is_valid tag_lo = not (tag_lo / 2 ^ 6 % 2 ^ 2 == 0)
 abbrev pub stored : ℕ → IndexOperation → Operation
 stored tag_lo invalid = if is_valid tag_lo then Forge else Index invalid
 
--- The operation of a code. Operation 1 is Index Load Tag; 2 Index Store Tag, which throws the line away where the state is invalid;
--- 3 on D Create Dirty Exclusive; 6 on I Hit Writeback. What the other codes name does nothing on such a machine.
+-- What a verb is on the instruction cache, where the sixth one is Fill. Index Store Tag throws the line away where the state is
+-- invalid. The verbs that a cache does not have do nothing.
+abbrev pub on_instructions : Verb → ℕ → Operation
+on_instructions verb.IndexWritebackInvalidate tag_lo = Index InvalidateI
+on_instructions verb.IndexLoadTag tag_lo = Peek
+on_instructions verb.IndexStoreTag tag_lo = stored tag_lo InvalidateI
+on_instructions verb.CreateDirtyExclusive tag_lo = Nothing
+on_instructions verb.HitInvalidate tag_lo = Hit HitInvalidateI
+on_instructions verb.HitWritebackInvalidate tag_lo = Hit FillI
+on_instructions verb.HitWriteback tag_lo = Forge
+on_instructions verb.HitSetVirtual tag_lo = Nothing
+
+-- what it is on the data cache
+abbrev pub on_data : Verb → ℕ → Operation
+on_data verb.IndexWritebackInvalidate tag_lo = Index WritebackInvalidateD
+on_data verb.IndexLoadTag tag_lo = Peek
+on_data verb.IndexStoreTag tag_lo = stored tag_lo StoreTagD
+on_data verb.CreateDirtyExclusive tag_lo = Forge
+on_data verb.HitInvalidate tag_lo = Hit HitInvalidateD
+on_data verb.HitWritebackInvalidate tag_lo = Hit HitWritebackInvalidateD
+on_data verb.HitWriteback tag_lo = Hit HitWritebackD
+on_data verb.HitSetVirtual tag_lo = Nothing
+
+-- what it is on a cache: nothing on a secondary one, which such a machine does not have
+abbrev pub ruled : Cache → Verb → ℕ → Operation
+ruled PrimaryInstruction verb tag_lo = on_instructions verb tag_lo
+ruled PrimaryData verb tag_lo = on_data verb tag_lo
+ruled SecondaryInstruction verb tag_lo = Nothing
+ruled SecondaryData verb tag_lo = Nothing
+
+-- the operation of a code: a number that is none does nothing
+abbrev pub ruled_by : Option CacheCode → ℕ → Operation
+ruled_by None tag_lo = Nothing
+ruled_by (Some code) tag_lo = ruled code.cache code.verb tag_lo
+
 abbrev pub operation_of : ℕ → ℕ → Operation
-operation_of code tag_lo =
-    if code == on_i 0 then Index InvalidateI
-    else if code == on_d 0 then Index WritebackInvalidateD
-    else if code == on_i 1 then Peek
-    else if code == on_d 1 then Peek
-    else if code == on_i 2 then stored tag_lo InvalidateI
-    else if code == on_d 2 then stored tag_lo StoreTagD
-    else if code == on_d 3 then Forge
-    else if code == on_i 4 then Hit HitInvalidateI
-    else if code == on_d 4 then Hit HitInvalidateD
-    else if code == on_i 5 then Hit FillI
-    else if code == on_d 5 then Hit HitWritebackInvalidateD
-    else if code == on_i 6 then Forge
-    else if code == on_d 6 then Hit HitWritebackD
-    else Nothing
+operation_of code tag_lo = ruled_by (code_of code) tag_lo
 
 -- The operations on an index that no fact can forbid: a ledger need not look at the cells of the index.
 abbrev pub flushes : IndexOperation → Bool

@@ -1,7 +1,9 @@
 //! The operations of the CACHE instruction, as far as the rules tell them apart.
 
 ghost use Rattle.std.specs.Prelude.{◌≡◌};
-ghost use Rattle.rule_ledger.specs.Operations.{is_valid, operation_of, stored};
+ghost use Rattle.rule_ledger.specs.Operations.{is_valid, on_data, on_instructions, operation_of, ruled, stored};
+
+use cache_codes::{Cache, CacheCode, Verb};
 
 /// An operation on the lines at an index of a primary cache.
 #[derive(Clone, Copy)]
@@ -53,24 +55,56 @@ fn stored(tag_lo: u64, invalid: IndexOperation) -> Operation
     }
 }
 
+// A verb said to the instruction cache, where the sixth one is Fill.
+fn on_instructions(verb: Verb, tag_lo: u64) -> Operation
+    ensures { result ≡ on_instructions verb tag_lo }
+{
+    match verb {
+        Verb::IndexWritebackInvalidate => Operation::Index(IndexOperation::InvalidateI),
+        Verb::IndexLoadTag => Operation::Peek,
+        Verb::IndexStoreTag => stored(tag_lo, IndexOperation::InvalidateI),
+        Verb::HitInvalidate => Operation::Hit(HitOperation::HitInvalidateI),
+        Verb::HitWritebackInvalidate => Operation::Hit(HitOperation::FillI),
+        Verb::HitWriteback => Operation::Forge,
+        Verb::CreateDirtyExclusive | Verb::HitSetVirtual => Operation::Nothing,
+    }
+}
+
+// A verb said to the data cache.
+fn on_data(verb: Verb, tag_lo: u64) -> Operation
+    ensures { result ≡ on_data verb tag_lo }
+{
+    match verb {
+        Verb::IndexWritebackInvalidate => Operation::Index(IndexOperation::WritebackInvalidateD),
+        Verb::IndexLoadTag => Operation::Peek,
+        Verb::IndexStoreTag => stored(tag_lo, IndexOperation::StoreTagD),
+        Verb::CreateDirtyExclusive => Operation::Forge,
+        Verb::HitInvalidate => Operation::Hit(HitOperation::HitInvalidateD),
+        Verb::HitWritebackInvalidate => Operation::Hit(HitOperation::HitWritebackInvalidateD),
+        Verb::HitWriteback => Operation::Hit(HitOperation::HitWritebackD),
+        Verb::HitSetVirtual => Operation::Nothing,
+    }
+}
+
 impl Operation {
-    /// The operation of a code, which is four times its number and the number of its cache.
+    // What a verb said to a cache is to the rules.
+    fn of(code: CacheCode, tag_lo: u64) -> Operation
+        ensures { result ≡ ruled code.cache code.verb tag_lo }
+    {
+        match code.cache {
+            Cache::PrimaryInstruction => on_instructions(code.verb, tag_lo),
+            Cache::PrimaryData => on_data(code.verb, tag_lo),
+            Cache::SecondaryInstruction | Cache::SecondaryData => Operation::Nothing,
+        }
+    }
+
+    /// What the operation of a code is to the rules.
     pub fn from_code(code: u8, tag_lo: u64) -> Operation
         ensures { result ≡ operation_of code tag_lo }
     {
-        match code {
-            0 => Operation::Index(IndexOperation::InvalidateI),
-            1 => Operation::Index(IndexOperation::WritebackInvalidateD),
-            4 | 5 => Operation::Peek,
-            8 => stored(tag_lo, IndexOperation::InvalidateI),
-            9 => stored(tag_lo, IndexOperation::StoreTagD),
-            13 | 24 => Operation::Forge,
-            16 => Operation::Hit(HitOperation::HitInvalidateI),
-            17 => Operation::Hit(HitOperation::HitInvalidateD),
-            20 => Operation::Hit(HitOperation::FillI),
-            21 => Operation::Hit(HitOperation::HitWritebackInvalidateD),
-            25 => Operation::Hit(HitOperation::HitWritebackD),
-            _ => Operation::Nothing,
+        match CacheCode::from_number(code) {
+            Some(code) => Operation::of(code, tag_lo),
+            None => Operation::Nothing,
         }
     }
 }
