@@ -8,7 +8,8 @@ ghost use Rattle.access_trace.specs.declared.event.EventKind.TheVariants.{Cache}
 ghost use Rattle.r4_shape.specs.Address.{colour, granule};
 ghost use Rattle.rule_ledger.specs.Cells.{grid_of};
 ghost use Rattle.rule_ledger.specs.Consistent.{IsConsistent};
-ghost use Rattle.rule_ledger.specs.Events.{row_of};
+ghost use Rattle.rule_ledger.specs.Events.{row_of, where_in_ram};
+ghost use Rattle.rule_ledger.specs.Facts.{granules};
 ghost use Rattle.rule_ledger.specs.Marks.{facts_of};
 ghost use Rattle.rule_ledger.specs.Rules as rule;
 ghost use Rattle.rule_ledger.specs.Steps.{Reads, Settles};
