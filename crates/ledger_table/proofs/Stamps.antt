@@ -1,5 +1,5 @@
 -- A table by its numbers: what stays where a number was read, a mark set, a row cleared.
-use Rattle.std.proofs.Common.{◌≡◌, ◌≢◌, ℕ, ◌+◌, ◌*◌, ◌%◌, ◌^◌, ◌<◌, ◌≤◌, cond, length, get_or, set, replicate, arith, refl, sym, ap, ◌∙◌, inl, inr, eqb}
+use Rattle.std.proofs.Common.{Bool, true, false, ◌≡◌, ◌≢◌, ℕ, ◌+◌, ◌*◌, ◌%◌, ◌^◌, ◌<◌, ◌≤◌, cond, length, get_or, set, replicate, arith, refl, sym, ap, ◌∙◌, inl, inr, eqb}
 use Rattle.std.proofs.lemmas.Nat.{mod_below}
 use Rattle.std.proofs.lemmas.Bool.{cases_eq, cases_lt, eq-eqb, ne_eqb}
 use Rattle.std.proofs.lemmas.List.{get_or-set_same, get_or-set_other, get_or-replicate, get_or_past, length-set, length-replicate}
@@ -43,6 +43,15 @@ module _ (t : Table) (is : IsTable t) where
       → own ≢ stamp → ◌≡◌ {A = ℕ} 0 (mark_of t cell)
   unfolding mark_of cell_stamp row_stamp
   none_read cell row stamp own r s o n = rw (← r, ← s, ← o, ne_eqb own stamp n) refl
+
+  -- a mark that is 0 says so whatever the stamps are
+  pub zero_read : (cell mark : ℕ) → mark ≡ get_or t.counted.numbers (2 * cell + 1) 0 → mark ≡ 0 → ◌≡◌ {A = ℕ} 0 (mark_of t cell)
+  unfolding mark_of cell_stamp row_stamp
+  zero_read cell mark m z = rw (← m, z) (either_zero (eqb (get_or t.counted.numbers (2 * cell) 0) (get_or t.counted.numbers (2 * t.cells + cell % t.rows) 0)))
+    where
+      either_zero : (b : Bool) → ◌≡◌ {A = ℕ} 0 (cond b 0 0)
+      either_zero true = refl
+      either_zero false = refl
 
   -- ---- a mark was set
 

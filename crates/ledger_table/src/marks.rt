@@ -86,10 +86,14 @@ impl Marks {
         } }
         ensures touches { self.new.counted.touches ≤ self.old.counted.touches + 3 }
     {
+        let mark = self.counted.get(2 * cell + 1) as u8;
+        if mark == 0 {
+            return 0;
+        }
         let row = self.row(cell);
         let stamp = self.counted.get(2 * self.cells + row);
         if self.counted.get(2 * cell) == stamp {
-            self.counted.get(2 * cell + 1) as u8
+            mark
         } else {
             0
         }

@@ -1,9 +1,10 @@
 -- What a step of the ledger answers and leaves.
 -- Source: this project's own.
-use Rattle.std.specs.Prelude.{◌≡◌, ◌<◌, ◌+◌, ℕ, Option, Some, None}
+use Rattle.std.specs.Prelude.{◌≡◌, ◌<◌, ◌+◌, ℕ, true, false, Option, Some, None}
 use Rattle.access_trace.specs.declared.event.Breach.{Breach}
 use Rattle.ledger_table.specs.Table.{row_stamp}
 use Rattle.rule_ledger.specs.Cells.{grid_of}
+use Rattle.rule_ledger.specs.Facts.{Facts}
 use Rattle.rule_ledger.specs.Marks.{Ledger, facts_of, touches_of}
 use Rattle.rule_ledger.specs.Rules.{Row, first_breach, next, after}
 
@@ -39,6 +40,13 @@ pub record Follows (row : Row) (old new : Ledger) (answer : Option Breach) : Typ
   pub facts : facts_of new ≡ after answer (facts_of old) row
   pub shape : new.shape ≡ old.shape
   pub steps : new.steps ≡ steps_after answer old.steps
+
+-- A write of memory past the caches changes nothing of a granule: at the colours below a bound no copy is dirty, and each that is held
+-- is old.
+pub record IsLeft (k : Facts) (granule bound : ℕ) : Type 0 where
+  pub clean : (c : ℕ) → c < bound → k.dirty granule c ≡ false
+  pub old : (c : ℕ) → c < bound → k.held granule c ≡ true → k.old granule c ≡ true
+  pub iold : (c : ℕ) → c < bound → k.iheld granule c ≡ true → k.iold granule c ≡ true
 
 -- The row breaks no rule and changes no fact.
 pub record Settles (row : Row) (ledger : Ledger) : Type 0 where

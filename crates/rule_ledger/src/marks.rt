@@ -1,6 +1,6 @@
 //! What a mark of a table says of a cell.
 
-ghost use Rattle.std.specs.Prelude.{◌≡◌};
+ghost use Rattle.std.specs.Prelude.{◌≡◌, true, false};
 ghost use Rattle.rule_ledger.specs.MarkFlags.{data_mark, instruction_mark};
 
 /// What may be so of the copy of a granule at a colour in the data cache.
@@ -22,6 +22,15 @@ impl DataMark {
             dirty: bits / 2 % 2 == 1,
             old: bits / 4 % 2 == 1,
         }
+    }
+
+    /// Whether a write of memory past the caches leaves the mark as it is: no bytes are owed, and a copy that is held is old.
+    #[inline]
+    pub fn is_left(self) -> bool
+        ensures clean { result ≡ true → self.dirty ≡ false }
+        ensures old { result ≡ true → self.held ≡ true → self.old ≡ true }
+    {
+        !self.dirty && (self.old || !self.held)
     }
 
     /// The mark with these flags.
@@ -50,6 +59,14 @@ impl InstructionMark {
             held: bits / 8 % 2 == 1,
             old: bits / 16 % 2 == 1,
         }
+    }
+
+    /// Whether a write of memory past the caches leaves the mark as it is.
+    #[inline]
+    pub fn is_left(self) -> bool
+        ensures old { result ≡ true → self.held ≡ true → self.old ≡ true }
+    {
+        self.old || !self.held
     }
 
     /// The mark with these flags.

@@ -8,7 +8,8 @@ ghost use Rattle.access_trace.specs.declared.event.EventKind.TheVariants.{Cache}
 ghost use Rattle.r4_shape.specs.Address.{colour, granule};
 ghost use Rattle.rule_ledger.specs.Cells.{grid_of};
 ghost use Rattle.rule_ledger.specs.Consistent.{IsConsistent};
-ghost use Rattle.rule_ledger.specs.Events.{row_of};
+ghost use Rattle.rule_ledger.specs.Events.{row_of, where_in_ram};
+ghost use Rattle.rule_ledger.specs.Facts.{granules};
 ghost use Rattle.rule_ledger.specs.Marks.{facts_of};
 ghost use Rattle.rule_ledger.specs.Rules as rule;
 ghost use Rattle.rule_ledger.specs.Steps.{Reads, Settles};
@@ -56,6 +57,34 @@ impl Tables {
         copy.held && !copy.old
     }
 
+    // The same of a read of memory past the caches: the granule is dirty at no colour.
+    #[inline(never)]
+    fn is_settled_read(&mut self, pa: u64) -> bool
+        ensures settles { let shape = self.old.shape in
+            result ≡ true → Settles (where_in_ram pa (rule.read_past (granules (granule shape pa) 1))) self.old }
+        ensures reads { Reads self.old self.new }
+    {
+        if pa >= 8388608 {
+            return true;
+        }
+        let granule = self.granule(pa);
+        !self.is_dirty(granule)
+    }
+
+    // The same of a write of memory past the caches: the granule is dirty at no colour, and each copy of it is old.
+    #[inline(never)]
+    fn is_settled_write(&mut self, pa: u64) -> bool
+        ensures settles { let shape = self.old.shape in
+            result ≡ true → Settles (where_in_ram pa (rule.write_past (granules (granule shape pa) 1))) self.old }
+        ensures reads { Reads self.old self.new }
+    {
+        if pa >= 8388608 {
+            return true;
+        }
+        let granule = self.granule(pa);
+        self.is_left(granule)
+    }
+
     // Whether one mark tells that an event breaks no rule and changes no fact.
     #[inline(always)]
     pub(crate) fn is_settled(&mut self, event: &Event) -> bool
@@ -69,6 +98,8 @@ impl Tables {
             EventKind::Load if event.cached => self.is_settled_load(event.pa, event.va),
             EventKind::Store if event.cached => self.is_settled_store(event.pa, event.va),
             EventKind::Fetch if event.cached => self.is_settled_fetch(event.pa, event.va),
+            EventKind::Load | EventKind::Fetch => self.is_settled_read(event.pa),
+            EventKind::Store => self.is_settled_write(event.pa),
             _ => false,
         }
     }

@@ -1,6 +1,6 @@
 //! The marks of a ledger: what may be so of the copies that the primary caches hold.
 
-ghost use Rattle.std.specs.Prelude.{◌≡◌, ◌<◌, ◌≤◌, ◌+◌, ◌*◌, ◌/◌, ◌%◌, ℕ, false, IfOk};
+ghost use Rattle.std.specs.Prelude.{◌≡◌, ◌<◌, ◌≤◌, ◌+◌, ◌*◌, ◌/◌, ◌%◌, ℕ, true, false, IfOk};
 ghost use Rattle.r4_shape.specs.Address.{colour, granule, index};
 ghost use Rattle.r4_shape.specs.Numbers.{IsShape, colours, places};
 ghost use Rattle.rule_ledger.specs.Cells.{grid_of, meets};
@@ -8,7 +8,7 @@ ghost use Rattle.rule_ledger.specs.Events.{beat_granules};
 ghost use Rattle.rule_ledger.specs.Facts.{at_index, granules, no_facts, other_colours};
 ghost use Rattle.rule_ledger.specs.MarkFlags.{aged, all_aged, data_at, data_cleared, instruction_at, instructions_aged, instructions_cleared, with_data, with_instruction};
 ghost use Rattle.rule_ledger.specs.Marks.{facts_of, place_of, touches_of};
-ghost use Rattle.rule_ledger.specs.Steps.{Counts, Keeps, Reads};
+ghost use Rattle.rule_ledger.specs.Steps.{Counts, IsLeft, Keeps, Reads};
 ghost use Rattle.ledger_table.specs.Table.{row_stamp};
 
 use crate::marks::{DataMark, InstructionMark};
@@ -236,6 +236,24 @@ impl Tables {
             }
         }
         false
+    }
+
+    // Whether the granule is dirty at no colour, and each copy of it that is held in either cache is old.
+    #[inline]
+    pub(crate) fn is_left(&mut self, granule: u32) -> bool
+        requires { granule < (grid_of self.old.shape).whole }
+        ensures is { result ≡ true → IsLeft (facts_of self.old) granule (grid_of self.old.shape).colours }
+        ensures reads { Reads self.old self.new }
+    {
+        for colour in 0..self.colours {
+            if !self.data_mark(granule, colour).is_left() {
+                return false;
+            }
+            if !self.instruction_mark(granule, colour).is_left() {
+                return false;
+            }
+        }
+        true
     }
 
     // Whether one of so many granules may be dirty.
