@@ -11,8 +11,8 @@ use std::alloc::Global;
 use std::fs;
 use std::rt::Files;
 
-/// Files by their paths. It tells nothing of their content; each of its counts rises at each failure of its kind, and at
-/// nothing else.
+/// Files by their paths. It tells nothing of their content. Each of its counts never falls, and a call answers `Failed` only
+/// where its count rose.
 #[derive(Drop)]
 pub struct FileShelf<'a, R: Files> {
     rt: &'a R,

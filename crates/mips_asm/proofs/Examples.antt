@@ -11,7 +11,7 @@ use Rattle.mips_text.specs.Values.{number_of, bytes_of_text}
 use Rattle.mips3_table.specs.Matching.{row_named}
 use Rattle.mips_text.specs.Forms.{statement_named}
 use Rattle.mips3_code.specs.Targets.{branch_target, jump_target}
-use Rattle.mips_text.specs.Line.{operands_fault, item_of, read_statement, read_line}
+use Rattle.mips_text.specs.Line.{operands_fault, item_of, read_statement, read_line, beq_row, ori_row, lui_row, or_row}
 use Rattle.mips_text.proofs.Reached.{distance_is, number_is}
 use Rattle.mips_asm.specs.Layout.{base_of, size_at, fault_at, layout_fault}
 use Rattle.mips_text.specs.Least.{least}
@@ -159,15 +159,15 @@ unfolding assembled base_of read_line read_statement item_of operands_fault size
 a_base_between_words = refl
 
 a_number_of_32_bits : assembled (codes "li t0,-1") ≡ Image 0x80010000 0x80010000 (bytes_of_words (0x3c08ffff ∷ 0x3508ffff ∷ []))
-unfolding assembled base_of read_line read_statement item_of operands_fault size_at fault_at layout_fault coding_fault least coded_at loading branch_to jump_to distance_to word_number tokens_of cut_from start_of register_of register_names cp0_register_of cp0_names statement_named row_named row_at rows number_of bytes_of_text encoded branch_target jump_target zeros_of
+unfolding assembled base_of read_line read_statement item_of operands_fault size_at fault_at layout_fault coding_fault least coded_at loading branch_to jump_to distance_to word_number tokens_of cut_from start_of register_of register_names cp0_register_of cp0_names statement_named row_named row_at rows number_of bytes_of_text encoded branch_target jump_target zeros_of lui_row ori_row
 a_number_of_32_bits = refl
 
 the_address_of_a_label : assembled (codes "la t0,x\nx: nop") ≡ Image 0x80010000 0x80010000 (bytes_of_words (0x3c088001 ∷ 0x35080008 ∷ 0 ∷ []))
-unfolding assembled base_of read_line read_statement item_of operands_fault size_at fault_at layout_fault coding_fault least coded_at loading branch_to jump_to distance_to word_number tokens_of cut_from start_of register_of register_names cp0_register_of cp0_names statement_named row_named row_at rows number_of bytes_of_text encoded branch_target jump_target zeros_of
+unfolding assembled base_of read_line read_statement item_of operands_fault size_at fault_at layout_fault coding_fault least coded_at loading branch_to jump_to distance_to word_number tokens_of cut_from start_of register_of register_names cp0_register_of cp0_names statement_named row_named row_at rows number_of bytes_of_text encoded branch_target jump_target zeros_of lui_row ori_row
 the_address_of_a_label = refl
 
 a_branch_that_just_reaches : assembled (codes "b 0x80030000") ≡ Image 0x80010000 0x80010000 (bytes_of_words (0x10007fff ∷ []))
-unfolding assembled base_of read_line read_statement item_of operands_fault size_at fault_at layout_fault coding_fault least coded_at loading branch_to jump_to tokens_of cut_from start_of register_of register_names cp0_register_of cp0_names statement_named row_named row_at rows number_of bytes_of_text encoded branch_target jump_target zeros_of
+unfolding assembled base_of read_line read_statement item_of operands_fault size_at fault_at layout_fault coding_fault least coded_at loading branch_to jump_to tokens_of cut_from start_of register_of register_names cp0_register_of cp0_names statement_named row_named row_at rows number_of bytes_of_text encoded branch_target jump_target zeros_of beq_row
 a_branch_that_just_reaches = rw (distance_is 0x80010000 0x80030000, distance_is 0x80010000 0x80030000) refl
 
 a_branch_too_far : assembled (codes "b 0x80030004") ≡ Bad 1 why.Range
@@ -175,7 +175,7 @@ unfolding assembled base_of read_line read_statement item_of operands_fault size
 a_branch_too_far = rw (distance_is 0x80010000 0x80030004) refl
 
 a_branch_back_that_just_reaches : assembled (codes "b 0x7fff0004") ≡ Image 0x80010000 0x80010000 (bytes_of_words (0x10008000 ∷ []))
-unfolding assembled base_of read_line read_statement item_of operands_fault size_at fault_at layout_fault coding_fault least coded_at loading branch_to jump_to tokens_of cut_from start_of register_of register_names cp0_register_of cp0_names statement_named row_named row_at rows number_of bytes_of_text encoded branch_target jump_target zeros_of
+unfolding assembled base_of read_line read_statement item_of operands_fault size_at fault_at layout_fault coding_fault least coded_at loading branch_to jump_to tokens_of cut_from start_of register_of register_names cp0_register_of cp0_names statement_named row_named row_at rows number_of bytes_of_text encoded branch_target jump_target zeros_of beq_row
 a_branch_back_that_just_reaches = rw (distance_is 0x80010000 0x7fff0004, distance_is 0x80010000 0x7fff0004) refl
 
 a_branch_back_too_far : assembled (codes "b 0x7fff0000") ≡ Bad 1 why.Range
@@ -283,7 +283,7 @@ unfolding assembled base_of read_line read_statement item_of operands_fault size
 a_shift_too_large = refl
 
 a_move : assembled (codes "move t0,$9") ≡ Image 0x80010000 0x80010000 (bytes_of_words (0x01204025 ∷ []))
-unfolding assembled base_of read_line read_statement item_of operands_fault size_at fault_at layout_fault coding_fault least coded_at loading branch_to jump_to distance_to word_number tokens_of cut_from start_of register_of register_names cp0_register_of cp0_names statement_named row_named row_at rows number_of bytes_of_text encoded branch_target jump_target zeros_of
+unfolding assembled base_of read_line read_statement item_of operands_fault size_at fault_at layout_fault coding_fault least coded_at loading branch_to jump_to distance_to word_number tokens_of cut_from start_of register_of register_names cp0_register_of cp0_names statement_named row_named row_at rows number_of bytes_of_text encoded branch_target jump_target zeros_of or_row
 a_move = refl
 
 a_negative_offset : assembled (codes "\tlw  t0 , -4 (sp)") ≡ Image 0x80010000 0x80010000 (bytes_of_words (0x8fa8fffc ∷ []))

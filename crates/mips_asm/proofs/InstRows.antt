@@ -11,6 +11,7 @@ use Rattle.mips_text.specs.declared.operand.Operand.TheVariants.{BranchTarget}
 use Rattle.mips_text.specs.Forms.{operands_of}
 use Rattle.mips_asm.specs.Shown.{IsSoundBy}
 use Rattle.mips_text.specs.Line.{bare, beq_row}
+use Rattle.mips_asm.proofs.NamedRows.{beq_is}
 
 -- an instruction whose fields have the widths of its row's form is one of the table, and is so with another number
 is_inst : (w : Widths) (inst : Inst) → inst.row < 129 → w ≡ widths_at inst.row → FitsWidths w inst → IsInst inst
@@ -29,9 +30,12 @@ sound_by_form one inst row same fits = is_inst (widths_of one) inst row same fit
 pub sound_by_operands : (row : ℕ) (inst : Inst) → row < 129 → inst.row ≡ row → FitsWidths (widths_at row) inst → IsSoundBy (operands_of (row_at row).form) inst
 sound_by_operands row inst lt same fits = sound_by_form (row_at row).form inst (omega arith) (ap widths_at (sym same)) fits
 
-pub beq_is_sound : IsSoundBy (BranchTarget ∷ []) (bare beq_row)
+beq_is_sound_there : IsSoundBy (BranchTarget ∷ []) (bare 2)
 unfolding row_at rows
-beq_is_sound = (
+beq_is_sound_there = (
   λ number lt. record { row = omega arith; fields = record { rs = omega arith; rt = omega arith; rd = omega arith; sa = omega arith; imm = lt } },
   record { row = omega arith; fields = record { rs = omega arith; rt = omega arith; rd = omega arith; sa = omega arith; imm = omega arith } },
 )
+
+pub beq_is_sound : IsSoundBy (BranchTarget ∷ []) (bare beq_row)
+beq_is_sound = subst (λ row. IsSoundBy (BranchTarget ∷ []) (bare row)) (sym beq_is) beq_is_sound_there

@@ -2,6 +2,7 @@ mod Examples
 pub mod LabelList
 pub mod Bounds
 pub mod NumberList
+pub mod NamedRows
 pub mod InstRows
 pub mod Reaches
 pub mod OperandFields

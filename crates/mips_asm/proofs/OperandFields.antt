@@ -15,6 +15,7 @@ use Rattle.mips_text.specs.declared.operand.Field.TheVariants.{Rs, Rt, Rd, Sa, I
 use Rattle.mips_text.specs.declared.operand.Expected.{Expected}
 use Rattle.mips_text.specs.declared.operand.Expected.TheVariants.{ARegister, ACp0Register, ANumber, AnAlignment, ATarget, ALabel, AText, AMark}
 use Rattle.mips_text.specs.declared.statement.Statement.TheVariants.{Instruction, Move}
+use Rattle.r4_words.specs.Ascii.{comma}
 use Rattle.mips_text.specs.Names.{register_of, cp0_register_of}
 use Rattle.mips_text.specs.Values.{number_of}
 use Rattle.mips_text.specs.Forms.{width_of, bits_in, operands_of, separated, token_text}
@@ -24,6 +25,7 @@ use Rattle.mips_asm.specs.Shown.{IsSoundBy}
 use Rattle.mips_asm.specs.StatementsOf.{FitsField, IsOfField, ArePut}
 use Rattle.mips_asm.proofs.Bounds.{small_bits}
 use Rattle.mips_asm.proofs.InstRows.{sound_by_operands}
+use Rattle.mips_asm.proofs.NamedRows.{or_is}
 
 -- bits that a field has room for are a value of the field
 pub bits_of_field : (field : Field) (width bits : ℕ) → FitsField field width → bits < 2 ^ width → IsOfField field bits
@@ -116,14 +118,17 @@ sound_of_row line row tokens inst is lt =
     let fits = operands_fit (widths_at row) row line (separated (operands_of (row_at row).form)) tokens (bare row) inst (form_holds (row_at row).form) (bare_fits (widths_at row) row) is in
     sound_by_operands row inst lt fits.row_is fits.fields
 
-move_holds : AllHold (widths_at or_row) (ARegister Rd ∷ AMark 44 ∷ ARegister Rs ∷ [])
+move_holds_there : AllHold (widths_at 91) (ARegister Rd ∷ AMark comma ∷ ARegister Rs ∷ [])
 unfolding row_at rows
-move_holds = (omega arith, (tt, (omega arith, tt)))
+move_holds_there = (omega arith, (tt, (omega arith, tt)))
+
+move_holds : AllHold (widths_at or_row) (ARegister Rd ∷ AMark comma ∷ ARegister Rs ∷ [])
+move_holds = subst (λ row. AllHold (widths_at row) (ARegister Rd ∷ AMark comma ∷ ARegister Rs ∷ [])) (sym or_is) move_holds_there
 
 pub sound_of_move : (line : List ℕ) (tokens : List Token) (inst : Inst) → inst_of line or_row Move tokens ≡ Some inst → IsInst inst
 sound_of_move line tokens inst is =
-    let fits = operands_fit (widths_at or_row) or_row line (ARegister Rd ∷ AMark 44 ∷ ARegister Rs ∷ []) tokens (bare or_row) inst move_holds (bare_fits (widths_at or_row) or_row) is in
-    record { row = (let same = fits.row_is in omega arith); fields = subst (λ row. FitsWidths (widths_at row) inst) (sym fits.row_is) fits.fields }
+    let fits = operands_fit (widths_at or_row) or_row line (ARegister Rd ∷ AMark comma ∷ ARegister Rs ∷ []) tokens (bare or_row) inst move_holds (bare_fits (widths_at or_row) or_row) is in
+    record { row = (let same = fits.row_is in let place = or_is in omega arith); fields = subst (λ row. FitsWidths (widths_at row) inst) (sym fits.row_is) fits.fields }
 
 -- numbers that are put one after another
 pub put_first : (found : Option (List ℕ)) (done : Bool) (number : ℕ) (old new : List ℕ) → ArePut found done (old ++ number ∷ []) new → ArePut (with_number (Some number) found) done old new

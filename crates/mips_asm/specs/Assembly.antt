@@ -12,6 +12,8 @@ use Rattle.mips_text.specs.declared.item.Item.{Item}
 use Rattle.mips_text.specs.Line.{Reading}
 use Rattle.mips_text.specs.Least.{least}
 use Rattle.mips_text.specs.Coded.{Coded, Given, Lacking, coded_of, label_at}
+use Rattle.mips_asm.specs.declared.built.AsmFault.{AsmFault}
+use Rattle.mips_asm.specs.declared.built.AsmFault.TheVariants as fault
 use Rattle.mips_asm.specs.Layout.{Placed, placed_all, readings_of, base_of, labels_of, layout_fault}
 
 -- What a source is assembled to.
@@ -138,3 +140,13 @@ abbrev pub IsRefusedAt : List ℕ → ℕ → AsmWhy → Type 0
 IsRefusedAt source number reason =
     IsFirstFault (layout_faults source) number reason
     ⊎ (HasNoFault (layout_faults source) × IsFirstFault (coding_faults source) number reason)
+
+-- A source is refused for what a fault of the assembler says; want of memory says nothing of the source.
+abbrev pub IsRefusedBy : List ℕ → AsmFault → Type 0
+IsRefusedBy source (fault.Bad line reason) = IsRefusedAt source line reason
+IsRefusedBy source fault.Memory = Unit {0}
+
+-- The same of what a source is assembled to.
+abbrev pub IsRefused : Assembly → AsmFault → Type 0
+IsRefused assembly (fault.Bad line reason) = assembly ≡ Bad line reason
+IsRefused assembly fault.Memory = Unit {0}

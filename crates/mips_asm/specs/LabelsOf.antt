@@ -1,5 +1,6 @@
 -- The labels that a map has.
 use Rattle.std.specs.Prelude.{ℕ, ◌==◌, Bool, not, List, [], ◌∷◌}
+use Rattle.r4_words.specs.Ascii.{newline}
 use Rattle.std.specs.declared.vec.Vec.{Vec}
 use Rattle.std.specs.declared.alloc.Global.{Global}
 
@@ -10,4 +11,4 @@ labels_shown (entry ∷ entries) = (entry.0.items, entry.1) ∷ labels_shown ent
 
 -- a byte is no newline
 abbrev pub in_line : ℕ → Bool
-in_line code = not (code == 10)
+in_line code = not (code == newline)

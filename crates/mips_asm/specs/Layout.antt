@@ -5,6 +5,7 @@
 -- chapter 4).
 use Rattle.std.specs.Prelude.{ℕ, ◌+◌, ◌-◌, ◌*◌, ◌%◌, ◌^◌, ◌==◌, nat_lt, Bool, true, false, not, ◌&&◌, ◌||◌, if◌then◌else◌, List, [], ◌∷◌, length, take, map, slice_get, Option, Some, None, is_some, option_map, option_and_then, codes, bytes_eq, Ok, Err}
 use Rattle.std.specs.List.{filter_map}
+use Rattle.r4_words.specs.Ascii.{newline}
 use Rattle.flat_ram.specs.Map.{ram_size}
 use Rattle.flat_ram.specs.Unmapped.{is_unmapped}
 use Rattle.mips_text.specs.declared.reason.AsmWhy.{AsmWhy}
@@ -23,7 +24,7 @@ before_lines code (line ∷ lines) = (code ∷ line) ∷ lines
 -- the lines of a source, each without the newline that ends it; the last may have none
 abbrev pub lines_of : List ℕ → List (List ℕ)
 lines_of [] = []
-lines_of (code ∷ rest) = if code == 10 then [] ∷ lines_of rest else before_lines code (lines_of rest)
+lines_of (code ∷ rest) = if code == newline then [] ∷ lines_of rest else before_lines code (lines_of rest)
 
 -- the lines of a source, each as it is read
 abbrev pub readings_of : List ℕ → List Reading

@@ -8,7 +8,7 @@ use Rattle.mips_asm.specs.declared.coding.Stop.TheVariants.{Lacks, Memory}
 use Rattle.mips_asm.specs.declared.built.AsmFault.{AsmFault}
 use Rattle.mips_asm.specs.declared.built.AsmFault.TheVariants as fault
 use Rattle.mips_asm.specs.Layout.{size_read, placed_at, labels_of}
-use Rattle.mips_asm.specs.Assembly.{Assembly, Bad, IsFirstFault, IsRefusedAt}
+use Rattle.mips_asm.specs.Assembly.{IsFirstFault}
 
 -- the address after lines, the first of which stands at this one
 abbrev pub address_after : ℕ → List Reading → ℕ
@@ -28,13 +28,3 @@ IsStopped fault Memory = Unit {0}
 abbrev pub IsFaultOf : (ℕ → Option AsmWhy) → AsmFault → Type 0
 IsFaultOf faults (fault.Bad line reason) = IsFirstFault faults line reason
 IsFaultOf faults fault.Memory = Unit {0}
-
--- a source is refused at this line for this reason; want of memory says nothing of the source
-abbrev pub IsRefusedBy : List ℕ → AsmFault → Type 0
-IsRefusedBy source (fault.Bad line reason) = IsRefusedAt source line reason
-IsRefusedBy source fault.Memory = Unit {0}
-
--- the same of what a source is assembled to
-abbrev pub IsRefused : Assembly → AsmFault → Type 0
-IsRefused assembly (fault.Bad line reason) = assembly ≡ Bad line reason
-IsRefused assembly fault.Memory = Unit {0}

@@ -2,6 +2,7 @@
 -- to an image of that word alone.
 -- Source: the assembler language of this project.
 use Rattle.std.specs.Prelude.{◌≡◌, ℕ, ◌<◌, ◌%◌, ◌^◌, true, List, ◌∷◌, ◌++◌, codes}
+use Rattle.r4_words.specs.Ascii.{newline}
 use Rattle.flat_ram.specs.Bytes.{bytes_of}
 use Rattle.flat_ram.specs.Unmapped.{is_unmapped}
 use Rattle.mips3_table.specs.declared.instruction.Inst.{Inst}
@@ -19,7 +20,7 @@ pub record IsPlace (at : ℕ) : Type 0 where
 
 -- the source of two lines that puts a text at an address: `.org 0x` with the address in hexadecimal, and the text
 abbrev pub source_at : ℕ → List ℕ → List ℕ
-source_at at text = codes ".org " ++ hex_text at ++ 10 ∷ text
+source_at at text = codes ".org " ++ hex_text at ++ newline ∷ text
 
 -- a text at an address assembles to this word, there and alone
 abbrev pub AssemblesTo : List ℕ → ℕ → ℕ → Type 0

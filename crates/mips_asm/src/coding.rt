@@ -1,14 +1,16 @@
 //! The bytes of statements.
 
-ghost use Rattle.std.specs.Prelude.{◌≡◌, ℕ, List, ◌<◌, ◌+◌, ◌%◌, ◌^◌, ◌++◌, [], OnOk, unwrap_or};
+ghost use Rattle.std.specs.Prelude.{◌≡◌, ℕ, List, ◌<◌, ◌+◌, ◌%◌, ◌^◌, ◌++◌, ◌/◌, [], OnOk, unwrap_or};
 ghost use Rattle.flat_ram.specs.Bytes.{bytes_of, zeros_of};
 ghost use Rattle.mips3_table.specs.Instructions.{IsInst};
 ghost use Rattle.mips_text.specs.Coded as law;
 ghost use Rattle.mips_text.specs.Coded.{label_at};
+ghost use Rattle.mips_text.specs.Line as line;
 ghost use Rattle.mips_asm.specs.Shown.{IsAppended, IsCoded, IsSound, NeedsNoLabel, word_shown};
 
 use crate::labels::Labels;
 use crate::layout::padding;
+use crate::named_rows::{lui_row, ori_row};
 use crate::operands::bare;
 use mips_text::{AsmWhy, Item, Target};
 use mips3_code::{branch_distance, encode, jump_number};
@@ -32,11 +34,6 @@ impl From<AllocError> for Stop {
         Stop::Memory
     }
 }
-
-/// The rows of `ori` and `lui` in the table.
-const ORI: u8 = 17;
-
-const LUI: u8 = 19;
 
 /// Appends a word, its high byte first.
 fn put_word(word: u32, bytes: &mut Vec<u8>) -> Result<(), AllocError>
@@ -78,25 +75,41 @@ fn jump_word(inst: &Inst, at: u32, target: u32) -> Option<u32>
     }
 }
 
+/// The instruction that loads the upper half of a register with that of a number.
+fn upper_loading(register: u8, number: u32) -> Inst
+    requires { register < 32 }
+    ensures value { result ≡ record (line.bare line.lui_row) { rt = register; imm = number / 2 ^ 16 % 2 ^ 16 } }
+    ensures is_inst { IsInst result }
+{
+    Inst {
+        rt: register,
+        imm: number >> 16,
+        ..bare(lui_row())
+    }
+}
+
+/// The instruction that loads the lower half.
+fn lower_loading(register: u8, number: u32) -> Inst
+    requires { register < 32 }
+    ensures value { result ≡ record (line.bare line.ori_row) { rs = register; rt = register; imm = number % 2 ^ 16 } }
+    ensures is_inst { IsInst result }
+{
+    Inst {
+        rs: register,
+        rt: register,
+        imm: number % 0x1_0000,
+        ..bare(ori_row())
+    }
+}
+
 /// Appends the two instructions that load a register with a number.
-#[tactic(auto, unfolding(mips_text::specs::Coded::loading, mips3_table::specs::Rows::row_at, mips3_table::specs::Rows::rows))]
+#[tactic(auto, unfolding(mips_text::specs::Coded::loading))]
 fn put_loading(register: u8, number: u32, bytes: &mut Vec<u8>) -> Result<(), AllocError>
     requires { register < 32 }
     ensures { OnOk result (bytes.new.items ≡ bytes.old.items ++ law.loading register number) }
 {
-    let upper = Inst {
-        rt: register,
-        imm: number >> 16,
-        ..bare(LUI)
-    };
-    let lower = Inst {
-        rs: register,
-        rt: register,
-        imm: number & 0xffff,
-        ..bare(ORI)
-    };
-    put_word(encode(&upper), bytes)?;
-    put_word(encode(&lower), bytes)
+    put_word(encode(&upper_loading(register, number)), bytes)?;
+    put_word(encode(&lower_loading(register, number)), bytes)
 }
 
 /// Appends words.

@@ -141,16 +141,13 @@ pub fn fault_at(base: u32, address: u64, labels: &Labels, line: &Line) -> Option
     ensures fits { IsNone result → address + law.size_of address line.now.item ≤ base + ram_size }
     ensures fresh { IsNone result → law.stands_twice labels.now line.now.label ≡ false }
 {
-    let out_of_range = breaks_range(base, address, line);
-    if out_of_range {
+    if breaks_range(base, address, line) {
         return Some(AsmWhy::Range);
     }
-    let twice = stands_twice(labels, &line.label);
-    if twice {
+    if stands_twice(labels, &line.label) {
         return Some(AsmWhy::Twice);
     }
-    let misplaced = breaks_alignment(address, line);
-    if misplaced {
+    if breaks_alignment(address, line) {
         return Some(AsmWhy::Align);
     }
     None

@@ -8,8 +8,8 @@
 //! has a fault, what a source is assembled to); a line and its statement are defined in mips_text. proofs/Examples.antt
 //! computes whole sources by the definitions alone.
 //!
-//! Reading order: the statements and the tokens that they expect, what operands stand for, the reading of a line, the
-//! lines of a source, labels, addresses, bytes, the passes, printed text as a source.
+//! Reading order: the statements and the tokens that they expect, the rows that are named, what operands stand for, the
+//! reading of a line, the lines of a source, labels, addresses, bytes, the passes, printed text as a source.
 #![tactic(auto)]
 
 mod built;
@@ -18,6 +18,7 @@ mod expected;
 mod labels;
 mod layout;
 mod matching;
+mod named_rows;
 mod operands;
 mod passes;
 mod printed;

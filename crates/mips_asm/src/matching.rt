@@ -105,8 +105,7 @@ pub fn some_unknown(line: &[u8], expected: &[Expected], tokens: &[Token]) -> boo
     let [token, tokens @ ..] = tokens else {
         return false;
     };
-    let unknown = names_no_register(one, token.kind, text_of(line, token));
-    if unknown {
+    if names_no_register(one, token.kind, text_of(line, token)) {
         return true;
     }
     some_unknown(line, expected, tokens)
@@ -123,8 +122,7 @@ pub fn all_agree(line: &[u8], expected: &[Expected], tokens: &[Token]) -> bool
     let [token, tokens @ ..] = tokens else {
         return false;
     };
-    let agrees = has_kind(one, token.kind, text_of(line, token));
-    if !agrees {
+    if !has_kind(one, token.kind, text_of(line, token)) {
         return false;
     }
     all_agree(line, expected, tokens)
@@ -142,8 +140,7 @@ pub fn all_in_range(line: &[u8], expected: &[Expected], tokens: &[Token]) -> boo
     let [token, tokens @ ..] = tokens else {
         return true;
     };
-    let fits = has_range(one, token.kind, text_of(line, token));
-    if !fits {
+    if !has_range(one, token.kind, text_of(line, token)) {
         return false;
     }
     all_in_range(line, expected, tokens)

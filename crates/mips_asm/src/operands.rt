@@ -14,6 +14,7 @@ ghost use Rattle.mips_asm.specs.Reaches.{reach_of as reach_law};
 ghost use Rattle.mips_asm.specs.StatementsOf.{ArePut, IsNarrow, IsNarrowAt, IsOfField, IsStatement};
 
 use crate::matching::text_of;
+use crate::named_rows::{beq_row, or_row};
 use crate::ranges::bits_in;
 use arrayvec::ArrayVec;
 use mips_text::{
@@ -21,11 +22,6 @@ use mips_text::{
     cp0_register_of, number_of, operands_of, register_of,
 };
 use mips3_table::{Inst, form_of};
-
-/// The rows of `beq` and `or` in the table.
-const BEQ: u8 = 2;
-
-const OR: u8 = 91;
 
 /// The range of an address.
 const ADDRESS: Range = Range::Unsigned(32);
@@ -61,10 +57,7 @@ fn with_register(field: Field, inst: Inst, register: Option<u8>) -> Option<Inst>
     requires { IfSome register (λ number. number < 32) }
     ensures { result ≡ option_map (law.with_field field inst) register }
 {
-    match register {
-        Some(number) => Some(with_field(field, inst, u32::from(number))),
-        None => None,
-    }
+    Some(with_field(field, inst, u32::from(register?)))
 }
 
 /// An instruction with the field that a token gives.
@@ -100,10 +93,8 @@ fn with_operands(line: &[u8], expected: &[Expected], list: &[Token], inst: Inst)
     let [token, list @ ..] = list else {
         return None;
     };
-    match with_operand(one, text_of(line, token), inst) {
-        Some(next) => with_operands(line, expected, list, next),
-        None => None,
-    }
+    let next = with_operand(one, text_of(line, token), inst)?;
+    with_operands(line, expected, list, next)
 }
 
 /// The instruction of a row with every field 0.
@@ -138,10 +129,7 @@ fn register_at(line: &[u8], list: &[Token], at: usize) -> Option<u8>
     ensures value { result ≡ law.register_at line.now list.now at }
     ensures small { IfSome result (λ register. register < 32) }
 {
-    match text_at(line, list, at) {
-        Some(name) => register_of(name.text()),
-        None => None,
-    }
+    register_of(text_at(line, list, at)?.text())
 }
 
 /// The number of a range that the token at an index is, as bits.
@@ -150,10 +138,7 @@ fn number_at(range: Range, line: &[u8], list: &[Token], at: usize) -> Option<u32
     requires within { All (IsWithin (length line.now)) list.now }
     ensures { result ≡ law.number_at range line.now list.now at }
 {
-    match text_at(line, list, at) {
-        Some(name) => bits_in(range, name.text()),
-        None => None,
-    }
+    bits_in(range, text_at(line, list, at)?.text())
 }
 
 /// What a token names as a target.
@@ -163,10 +148,7 @@ fn target_of<'a>(kind: TokenKind, text: &'a [u8]) -> Option<Target<'a>>
     if matches!(kind, TokenKind::Name) {
         return Some(Target::Label(Name::new(text)));
     }
-    match bits_in(Range::Unsigned(32), text) {
-        Some(address) => Some(Target::Address(address)),
-        None => None,
-    }
+    Some(Target::Address(bits_in(Range::Unsigned(32), text)?))
 }
 
 /// The target that tokens give, if one is expected.
@@ -237,8 +219,11 @@ fn words_of(line: &[u8], operands: &[Token]) -> Option<Words>
     ensures { result ≡ law.numbers_of (Range.EitherSign 32) line.now operands.now }
 {
     let mut words = ArrayVec::new();
-    let all = put_words(line, operands, &mut words);
-    if all { Some(Words::new(words)) } else { None }
+    if put_words(line, operands, &mut words) {
+        Some(Words::new(words))
+    } else {
+        None
+    }
 }
 
 /// The bytes of a list of numbers.
@@ -248,8 +233,7 @@ fn bytes_of<'a>(line: &[u8], operands: &[Token]) -> Option<Bytes<'a>>
     ensures { result ≡ law.numbers_of (Range.EitherSign 8) line.now operands.now }
 {
     let mut bytes = ArrayVec::new();
-    let all = put_bytes(line, operands, &mut bytes);
-    if all {
+    if put_bytes(line, operands, &mut bytes) {
         Some(Bytes::of_numbers(bytes))
     } else {
         None
@@ -379,11 +363,16 @@ pub fn item_of<'a>(
         Statement::Instruction(row) => item_of_row(line, row, expected, operands),
         Statement::Li => number_loading(line, operands),
         Statement::La => label_loading(line, operands),
-        Statement::Move => Some(Item::Plain(with_operands(line, expected, operands, bare(OR))?)),
+        Statement::Move => Some(Item::Plain(with_operands(
+            line,
+            expected,
+            operands,
+            bare(or_row()),
+        )?)),
         Statement::Nop => Some(Item::Words(word_of_nop())),
         Statement::Branch => item_by(
             &[Operand::BranchTarget],
-            bare(BEQ),
+            bare(beq_row()),
             target_in(line, &[Expected::ATarget], operands),
         ),
         Statement::Org => Some(Item::Origin(number_at(ADDRESS, line, operands, 0)?)),

@@ -5,9 +5,9 @@ ghost use Rattle.flat_ram.specs.Map.{ram_size};
 ghost use Rattle.mips_text.specs.Line.{read_line as read_law};
 ghost use Rattle.mips_asm.specs.Layout as layout;
 ghost use Rattle.mips_asm.specs.Layout.{labels_of, layout_fault, placed, placed_at, readings_of};
-ghost use Rattle.mips_asm.specs.Assembly.{HasNoFault, Image, IsFaultless, assembled, bytes_of_lines, coded_line, coding_fault, entry_of, source_base, source_bytes, source_labels};
+ghost use Rattle.mips_asm.specs.Assembly.{HasNoFault, Image, IsFaultless, IsRefused, IsRefusedBy, assembled, bytes_of_lines, coded_line, coding_fault, entry_of, source_base, source_bytes, source_labels};
 ghost use Rattle.mips_asm.specs.Shown.{IsCoded, IsSoundLine};
-ghost use Rattle.mips_asm.specs.PassesOf.{IsFaultOf, IsRefused, IsRefusedBy, IsStopped, address_after, labels_after};
+ghost use Rattle.mips_asm.specs.PassesOf.{IsFaultOf, IsStopped, address_after, labels_after};
 
 use crate::built::{AsmFault, Built};
 use crate::coding::{Stop, put_item};

@@ -56,8 +56,7 @@ fn bits_of(range: Range, number: i64) -> Option<u32>
     requires { IsNarrow range }
     ensures { result ≡ forms.bits_in range number }
 {
-    let within = contains(range, number);
-    if within {
+    if contains(range, number) {
         Some(low_bits(width_of(range), number))
     } else {
         None
@@ -71,10 +70,7 @@ pub fn bits_in(range: Range, text: &[u8]) -> Option<u32>
     ensures value { result ≡ forms.bits_in range (values.number_of text.now) }
     ensures small { IfSome result (λ bits. bits < 2 ^ forms.width_of range) }
 {
-    match number_of(text) {
-        Some(number) => bits_of(range, number),
-        None => None,
-    }
+    bits_of(range, number_of(text)?)
 }
 
 /// Whether the number of a text lies in a range.

@@ -30,16 +30,13 @@ fn matched(line: &[u8], statement: Statement, operands: &[Token]) -> Result<Expe
     ensures narrow { IfOk result (λ expected. All IsNarrowAt expected.items) }
 {
     let expected = expected_of(statement, operands.len());
-    let unknown = some_unknown(line, &expected, operands);
-    if unknown {
+    if some_unknown(line, &expected, operands) {
         return Err(AsmWhy::Unknown);
     }
-    let agree = all_agree(line, &expected, operands);
-    if !agree {
+    if !all_agree(line, &expected, operands) {
         return Err(AsmWhy::Operand);
     }
-    let fit = all_in_range(line, &expected, operands);
-    if fit {
+    if all_in_range(line, &expected, operands) {
         Ok(expected)
     } else {
         Err(AsmWhy::Range)
@@ -62,8 +59,7 @@ fn with_label<'a>(label: Option<Name<'a>>, item: Option<Item<'a>>) -> Result<Lin
     ensures reading { result ≡ law.with_label label.entry item.entry }
     ensures sound { IfOk result IsSoundLine }
 {
-    let long = is_too_long(&label);
-    if long {
+    if is_too_long(&label) {
         return Err(AsmWhy::Range);
     }
     Ok(Line { label, item })
@@ -135,8 +131,7 @@ fn read_tokens<'a>(line: &'a [u8], list: &[Token]) -> Result<Line<'a>, AsmWhy>
     let [name, colon, rest @ ..] = list else {
         return read_statement(line, None, list);
     };
-    let labelled = is_label(line, name, colon);
-    if labelled {
+    if is_label(line, name, colon) {
         read_statement(line, Some(Name::new(text_of(line, name))), rest)
     } else {
         read_statement(line, None, list)

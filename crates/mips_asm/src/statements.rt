@@ -12,34 +12,25 @@ fn directive_named(text: &[u8]) -> Option<Statement>
     ensures value { result ≡ forms.directive_of text.now }
     ensures row { IfSome result IsStatement }
 {
-    let is_org = reads(text, ".org");
-    if is_org {
+    if reads(text, ".org") {
         return Some(Statement::Org);
     }
-    let is_word = reads(text, ".word");
-    if is_word {
+    if reads(text, ".word") {
         return Some(Statement::Word);
     }
-    let is_byte = reads(text, ".byte");
-    if is_byte {
+    if reads(text, ".byte") {
         return Some(Statement::Byte);
     }
-    let is_space = reads(text, ".space");
-    if is_space {
+    if reads(text, ".space") {
         return Some(Statement::Space);
     }
-    let is_align = reads(text, ".align");
-    if is_align {
+    if reads(text, ".align") {
         return Some(Statement::Align);
     }
-    let is_ascii = reads(text, ".ascii");
-    if is_ascii {
+    if reads(text, ".ascii") {
         return Some(Statement::Ascii);
     }
-    match row_named(text) {
-        Some(row) => Some(Statement::Instruction(row)),
-        None => None,
-    }
+    Some(Statement::Instruction(row_named(text)?))
 }
 
 /// The statement of a name.
@@ -48,24 +39,19 @@ pub fn statement_named(text: &[u8]) -> Option<Statement>
     ensures value { result ≡ forms.statement_named text.now }
     ensures row { IfSome result IsStatement }
 {
-    let is_li = reads(text, "li");
-    if is_li {
+    if reads(text, "li") {
         return Some(Statement::Li);
     }
-    let is_la = reads(text, "la");
-    if is_la {
+    if reads(text, "la") {
         return Some(Statement::La);
     }
-    let is_move = reads(text, "move");
-    if is_move {
+    if reads(text, "move") {
         return Some(Statement::Move);
     }
-    let is_nop = reads(text, "nop");
-    if is_nop {
+    if reads(text, "nop") {
         return Some(Statement::Nop);
     }
-    let is_branch = reads(text, "b");
-    if is_branch {
+    if reads(text, "b") {
         return Some(Statement::Branch);
     }
     directive_named(text)

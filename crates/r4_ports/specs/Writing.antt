@@ -1,5 +1,5 @@
--- How a text is written to a sink in full pieces, up to the first write that fails. Bytes that do not fill a piece yet
--- are pending: they are handed to the sink with those that follow.
+-- How a text is written to a sink in pieces, up to the first write that fails. Bytes that were not handed to the sink yet are
+-- pending: they are handed to it with those that follow.
 -- Source: this project's own rules for its outside.
 use Rattle.std.specs.Prelude.{◌≡◌, ◌≤◌, ℕ, Bool, true, false, List, [], ◌++◌, Option}
 use Rattle.r4_ports.specs.Told.{Appended, AppendedPrefix, Rose}

@@ -1,4 +1,4 @@
-//! Writing a text to a sink: in full pieces of 128 bytes, up to the first write that fails.
+//! Writing a text to a sink: in pieces of at most 128 bytes, up to the first write that fails.
 //!
 //! A writer carries a `Pending` beside its sink: the bytes that do not fill a piece yet, and whether a write has failed.
 //! Each of its parts writes nothing once one has, so a writer is straight-line code, and each part promises `Writes` of

@@ -10,7 +10,7 @@ use Rattle.mips_asm.proofs.OperandFields.{sound_of_move}
 use Rattle.mips_asm.proofs.operands.item_of.Goals as goal
 
 pub item_by-requires : goal.item_by-requires
-item_by-requires c = subst (λ (inst : Inst). IsSoundBy (BranchTarget ∷ []) inst) (sym c.bare-in-Branch.ensures) beq_is_sound
+item_by-requires c = subst (λ (inst : Inst). IsSoundBy (BranchTarget ∷ []) inst) (sym (c.bare-in-Branch.ensures ∙ ap bare c.beq_row.ensures)) beq_is_sound
 
 pub returns-in_ok-with_operands-in-Move-clause-sound : goal.returns-in_ok-with_operands-in-Move-clause-sound
 returns-in_ok-with_operands-in-Move-clause-sound c =
@@ -18,6 +18,6 @@ returns-in_ok-with_operands-in-Move-clause-sound c =
     let named : inst_of c.args.line.now or_row Move c.args.operands.now ≡ with_operands c.args.line.now c.args.expected.now c.args.operands.now (bare or_row) =
     ap (λ expected. with_operands c.args.line.now expected c.args.operands.now (bare or_row)) (sym expects) in
     let read : with_operands c.args.line.now c.args.expected.now c.args.operands.now (bare or_row) ≡ with_operands c.args.line.now c.args.expected.now c.args.operands.now c.bare.result =
-    ap (with_operands c.args.line.now c.args.expected.now c.args.operands.now) (sym c.bare.ensures) in
+    ap (with_operands c.args.line.now c.args.expected.now c.args.operands.now) (sym (c.bare.ensures ∙ ap bare c.or_row.ensures)) in
     sound_of_move c.args.line.now c.args.operands.now c.in_ok-with_operands-in-Move.field-0
     (named ∙ read ∙ sym c.with_operands.ensures ∙ c.in_ok-with_operands-in-Move.was)
