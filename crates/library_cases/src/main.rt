@@ -7,7 +7,7 @@
 //!
 //! `arguments` reads the parts of a case, `scene` is what lasts from a case to the next, and `operation_names` has the names
 //! of operations. Each other module has the verbs of one library, and its `put_answer` hands a verb that is none of them on
-//! to the next one's, from `words` to `sources`.
+//! to the next one's, from `words` to `proms`.
 #![tactic(auto)]
 
 mod arguments;
@@ -17,6 +17,7 @@ mod listings;
 mod memory;
 mod operation_names;
 mod ports;
+mod proms;
 mod rows;
 mod scene;
 mod sources;

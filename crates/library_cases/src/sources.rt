@@ -1,11 +1,12 @@
 //! Whole sources: the verbs of mips_asm. A source is a text in quotes.
 
 use crate::arguments::{put_bytes, quoted, text_of};
+use crate::proms;
 use crate::tokens::why_name;
 use mips_asm::{AsmFault, Built, assemble};
 use std::alloc::{AllocError, Global};
 
-/// Appends the answer of a verb, a question mark where there is no such verb.
+/// Appends the answer of a verb.
 pub fn put_answer(
     alloc: Global,
     verb: &str,
@@ -15,7 +16,7 @@ pub fn put_answer(
     match verb {
         "assemble" => put_assembled(alloc, arguments, out),
         "assembled_size" => put_size(alloc, arguments, out),
-        _ => out.push_str("?"),
+        _ => proms::put_answer(alloc, verb, out),
     }
 }
 
@@ -26,7 +27,8 @@ fn assembled(alloc: Global, arguments: &str) -> Result<Built, AsmFault> {
     }
 }
 
-fn assembled_of(alloc: Global, source: &[u8]) -> Result<Built, AsmFault> {
+/// The image that a source assembles to.
+pub fn assembled_of(alloc: Global, source: &[u8]) -> Result<Built, AsmFault> {
     if source.len() > 0xffff_fffe {
         return Err(AsmFault::Memory);
     }
@@ -62,7 +64,8 @@ fn put_size(alloc: Global, arguments: &str, out: &mut String) -> Result<(), Allo
     }
 }
 
-fn put_fault(fault: AsmFault, out: &mut String) -> Result<(), AllocError> {
+/// Appends the first bad line and its reason.
+pub fn put_fault(fault: AsmFault, out: &mut String) -> Result<(), AllocError> {
     match fault {
         AsmFault::Bad { line, why } => write!(out, "line {line} {}", why_name(why)),
         AsmFault::Memory => out.push_str("memory"),
