@@ -8,7 +8,7 @@ use Rattle.machine_core.specs.Shown.{shown_of}
 use Rattle.machine_core.specs.Traced.{machine_in}
 use Rattle.r4_shape.specs.Numbers.{Numbers}
 use Rattle.run_report.specs.Report.{report_of}
-use Rattle.access_trace.specs.Traces.{trace_text}
+use Rattle.access_trace.specs.Traces.{trace_of, trace_text}
 use Rattle.run_report.specs.Verdict.{verdict_text}
 use Rattle.trace_check.specs.declared.found.Found.{Found}
 use Rattle.trace_check.specs.Verdicts.{Standing, Judging, held, standing_at, start, verdict_by, event_by}
@@ -32,6 +32,13 @@ traced_text steps bench =
 abbrev pub judged_from : Numbers → Standing → Result (List Event) ℕ → Result Standing ℕ
 judged_from shape standing (Ok events) = Ok (fold (held shape) standing events)
 judged_from shape standing (Err line) = Err line
+
+-- What is written of a run, with whatever behind it, is judged from the start as the events of the run are.
+abbrev pub IsJudgedAgain : ℕ → BenchState → Type 0
+IsJudgedAgain steps bench =
+    (rest : List ℕ) →
+    judged_from bench.judge.ledger.shape start (trace_of (traced_text steps bench ++ rest))
+    ≡ Ok (fold (held bench.judge.ledger.shape) start (events_in steps bench))
 
 -- a judge has seen all events of a trace
 pub record HasJudged (shape : Numbers) (trace : Result (List Event) ℕ) (judge : Judging) : Type 0 where

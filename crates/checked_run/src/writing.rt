@@ -185,6 +185,7 @@ pub fn write_traced<K: Sink>(bench: &mut Bench, steps: u32, out: &mut K) -> Resu
     ensures cause { HasCause (K.faults out.old) (K.faults out.new) result }
     ensures whole { OnOk result (HasRun steps bench.old bench.new) }
     ensures flat { OnOk result (RunWasFlat steps bench.old) }
+    ensures judged_again { OnOk result (law.IsJudgedAgain steps bench.old) }
 {
     let _calm = bench.calm();
     write_run(bench, steps, out)
