@@ -1,3 +1,4 @@
 pub mod Fields
 pub mod Cut
 pub mod Lookup
+pub mod Powers
