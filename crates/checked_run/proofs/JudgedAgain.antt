@@ -10,8 +10,8 @@ use Rattle.flat_bridge.specs.Benches.{BenchState, events_in, standing_after}
 use Rattle.checked_run.specs.RunTexts.{checked_text, judged_from, IsJudgedAgain}
 
 pub judged_again : (steps : ℕ) (bench : BenchState) → All IsEvent (events_in steps bench) → IsJudgedAgain steps bench
-judged_again steps bench grammar rest =
+judged_again steps bench grammar shape rest =
     let events = events_in steps bench in
     let behind : List ℕ = checked_text (run_of steps (machine_in bench.machine)).machine (standing_after bench events).first in
-    ap (judged_from bench.judge.ledger.shape start)
+    ap (judged_from (start shape))
     (ap trace_of (append_assoc (trace_text events) behind rest) ∙ trace_of_text events (behind ++ rest) grammar)

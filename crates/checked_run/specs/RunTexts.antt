@@ -2,7 +2,7 @@
 -- Source: this project's own.
 use Rattle.std.specs.Prelude.{ℕ, ◌≡◌, ◌++◌, List, fold, Option, Result, Ok, Err}
 use Rattle.access_trace.specs.declared.event.Event.{Event}
-use Rattle.machine_core.specs.declared.machine_state.Machine.{Machine}
+use Rattle.machine_core.specs.Machine.{MachineState}
 use Rattle.machine_core.specs.Run.{run_of}
 use Rattle.machine_core.specs.Shown.{shown_of}
 use Rattle.machine_core.specs.Traced.{machine_in}
@@ -11,13 +11,13 @@ use Rattle.run_report.specs.Report.{report_of}
 use Rattle.access_trace.specs.Traces.{trace_of, trace_text}
 use Rattle.run_report.specs.Verdict.{verdict_text}
 use Rattle.trace_check.specs.declared.found.Found.{Found}
-use Rattle.trace_check.specs.Verdicts.{Standing, Judging, held, standing_at, start, verdict_by, event_by}
+use Rattle.trace_check.specs.Verdicts.{Standing, Judging, held, standing_at, standing_of, start, verdict_by, event_by}
 use Rattle.flat_bridge.specs.Benches.{BenchState, events_in, standing_after}
 
 -- ---- what is written
 
 -- the report of a machine, and the verdict by the first event that broke a rule
-abbrev pub checked_text : Machine → Option Found → List ℕ
+abbrev pub checked_text : MachineState → Option Found → List ℕ
 checked_text machine first = report_of (shown_of machine) ++ verdict_text (verdict_by first) (event_by first)
 
 -- the trace of a run of at most so many ticks, and the report and the verdict at its end
@@ -29,17 +29,16 @@ traced_text steps bench =
 -- ---- a trace that is read
 
 -- how matters stand with a judge after the events of a trace, or the first line of it that is bad
-abbrev pub judged_from : Numbers → Standing → Result (List Event) ℕ → Result Standing ℕ
-judged_from shape standing (Ok events) = Ok (fold (held shape) standing events)
-judged_from shape standing (Err line) = Err line
+abbrev pub judged_from : Standing → Result (List Event) ℕ → Result Standing ℕ
+judged_from standing (Ok events) = Ok (fold held standing events)
+judged_from standing (Err line) = Err line
 
--- What is written of a run, with whatever behind it, is judged from the start as the events of the run are.
+-- What is written of a run, with whatever behind it, is judged on any shape as the events of the run are.
 abbrev pub IsJudgedAgain : ℕ → BenchState → Type 0
 IsJudgedAgain steps bench =
-    (rest : List ℕ) →
-    judged_from bench.judge.ledger.shape start (trace_of (traced_text steps bench ++ rest))
-    ≡ Ok (fold (held bench.judge.ledger.shape) start (events_in steps bench))
+    (shape : Numbers) (rest : List ℕ) →
+    judged_from (start shape) (trace_of (traced_text steps bench ++ rest)) ≡ Ok (standing_of shape (events_in steps bench))
 
--- a judge has seen all events of a trace
+-- a judge has seen all events of a trace, on a shape
 pub record HasJudged (shape : Numbers) (trace : Result (List Event) ℕ) (judge : Judging) : Type 0 where
-  pub is : judged_from shape start trace ≡ Ok (standing_at judge)
+  pub is : judged_from (start shape) trace ≡ Ok (standing_at judge)
