@@ -2,8 +2,8 @@
 -- Source: MIPS R4000 Microprocessor User's Manual, 2nd edition (Heinrich), chapter 11, "Accessing the Primary Caches" and "Accessing
 -- the Secondary Cache"; chapter 11, "Virtual Coherency", for PIdx, the bits 14 to 12 of the virtual address. A colour is the page
 -- of a primary cache in which a virtual address lies; granule and group are this project's names for the number of a line.
-use Rattle.std.specs.Prelude.{ℕ, ◌+◌, ◌*◌, ◌/◌, ◌%◌}
-use Rattle.r4_shape.specs.Numbers.{Numbers, places}
+use Rattle.std.specs.Prelude.{ℕ, ◌/◌, ◌%◌}
+use Rattle.r4_shape.specs.Numbers.{Numbers}
 
 -- the index of a virtual address in a primary cache
 abbrev pub index : Numbers → ℕ → ℕ
@@ -27,9 +27,3 @@ group_of shape pa = pa / shape.group
 -- the place of a physical address in the secondary cache
 abbrev pub place : Numbers → ℕ → ℕ
 place shape pa = pa % shape.size / shape.group
-
--- The place of the copy of a granule at a colour among those of all granules. A page has as many copies as a primary cache has places,
--- and the place's rest by that number is the copy's index.
-abbrev pub copy_of : Numbers → ℕ → ℕ → ℕ
-copy_of shape granule colour =
-    granule / (4096 / shape.line) * places shape + (colour * (4096 / shape.line) + granule % (4096 / shape.line))
