@@ -1,7 +1,8 @@
 -- The report of a state, a text. Numbers are hexadecimal digits of fixed width in lower case; the tick count, the
 -- length of the console's output and the number of a TLB pair are decimal. The format is this project's own.
-use Rattle.std.specs.Prelude.{ℕ, zero, suc, Bool, ◌==◌, ◌+◌, ◌*◌, ◌/◌, ◌%◌, ◌&&◌, List, [], ◌∷◌, ◌++◌, length, take, drop, codes, slice_index, if◌then◌else◌, Option, Some, None}
-use Rattle.std.specs.List.{flat_map}
+use Rattle.std.specs.Prelude.{ℕ, Bool, ◌==◌, ◌+◌, ◌*◌, ◌/◌, ◌%◌, ◌&&◌, List, [], ◌∷◌, ◌++◌, length, take, drop, codes, slice_index, if◌then◌else◌, Option, Some, None}
+use Rattle.std.specs.List.{flat_map, range_with_len}
+use Rattle.r4_words.specs.Ascii.{digit_0}
 use Rattle.r4_words.specs.Texts.{hex_of, dec_of}
 use Rattle.mips3_alu.specs.declared.registers.Regs.{Regs}
 use Rattle.cp0_regs.specs.Registers.{numbers}
@@ -16,11 +17,11 @@ labelled label digits number = label ++ hex_of digits number
 
 -- a bit as a digit
 abbrev pub bit_digit : Bool → List ℕ
-bit_digit bit = if bit then 49 ∷ [] else 48 ∷ []
+bit_digit bit = if bit then codes "1" else codes "0"
 
 -- a number below 100 as two decimal digits
 abbrev pub two_digits : ℕ → List ℕ
-two_digits number = (48 + number / 10) ∷ (48 + number % 10) ∷ []
+two_digits number = (digit_0 + number / 10) ∷ (digit_0 + number % 10) ∷ []
 
 -- how the run ended: at the bound on its ticks, or at a halt
 abbrev pub end_text : Option ℕ → List ℕ
@@ -50,8 +51,7 @@ register_line regs at =
 
 -- the first so many lines of four registers
 unfoldable pub register_lines : Regs → ℕ → List ℕ
-register_lines regs zero = []
-register_lines regs (suc lines) = register_lines regs lines ++ register_line regs (4 * lines)
+register_lines regs lines = flat_map (λ line. register_line regs (4 * line)) (range_with_len 0 lines)
 
 -- four numbers of 32 bits, and the line's end
 unfoldable pub four_numbers : ℕ → ℕ → ℕ → ℕ → List ℕ
@@ -78,8 +78,7 @@ system_line cp0 at =
 
 -- the first so many lines of four registers of CP0
 unfoldable pub system_lines : List ℕ → ℕ → List ℕ
-system_lines cp0 zero = []
-system_lines cp0 (suc lines) = system_lines cp0 lines ++ system_line cp0 (4 * lines)
+system_lines cp0 lines = flat_map (λ line. system_line cp0 (4 * line)) (range_with_len 0 lines)
 
 -- a pair of the TLB whose four words are zero
 abbrev pub is_zero_pair : Pair → Bool
@@ -94,8 +93,7 @@ pair_line at pair =
 
 -- the lines of the first so many pairs
 unfoldable pub pair_lines : List Pair → ℕ → List ℕ
-pair_lines pairs zero = []
-pair_lines pairs (suc count) = pair_lines pairs count ++ pair_line count (pair_at pairs count)
+pair_lines pairs count = flat_map (λ at. pair_line at (pair_at pairs at)) (range_with_len 0 count)
 
 -- the disk's registers: SECT, ADDR and DSTAT
 unfoldable pub disk_line : ℕ → ℕ → ℕ → List ℕ
@@ -114,10 +112,13 @@ digits_of_bytes bytes = flat_map (hex_of 2) bytes
 unfoldable pub bytes_line : List ℕ → List ℕ
 bytes_line bytes = codes ": " ++ digits_of_bytes bytes ++ codes "\n"
 
--- the first so many lines of printed bytes, 32 a line
+-- the bytes of a line: 32 of those that are printed, and fewer in the last line
+abbrev pub bytes_at : List ℕ → ℕ → List ℕ
+bytes_at bytes line = take 32 (drop (32 * line) bytes)
+
+-- the first so many lines of printed bytes
 unfoldable pub bytes_lines : List ℕ → ℕ → List ℕ
-bytes_lines bytes zero = []
-bytes_lines bytes (suc lines) = bytes_lines bytes lines ++ bytes_line (take 32 (drop (32 * lines) bytes))
+bytes_lines bytes lines = flat_map (λ line. bytes_line (bytes_at bytes line)) (range_with_len 0 lines)
 
 -- how many lines of 32 bytes hold so many bytes
 abbrev pub line_count : ℕ → ℕ
