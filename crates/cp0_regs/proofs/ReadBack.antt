@@ -4,11 +4,11 @@ use Rattle.std.specs.Prelude.{bit_and, bit_or, slice_index}
 use Rattle.std.specs.Int.Bits.{and_self}
 use Rattle.std.proofs.Math.Nat.{mod-eq_of_lt}
 use Rattle.std.proofs.Math.Pow.{pow_mono}
-use Rattle.std.proofs.lemmas.Nat.{and_assoc, and_comm, and-not, or_shr, or_mod, shl-shr, pow_pos}
+use Rattle.std.proofs.lemmas.Nat.{and_assoc, and_comm, and_or_apart, and-not, or_shr, or_mod, shl-shr, pow_pos}
 use Rattle.std.proofs.lemmas.Nat.Bits.{and_high}
 use Rattle.std.proofs.lemmas.List.{get_or-set_same}
 use Rattle.cp0_regs.specs.declared.fields.Field.{Field}
-use Rattle.cp0_regs.specs.Bits.{all_bits, bits, field}
+use Rattle.cp0_regs.specs.Bits.{all_bits, bits, field, merged}
 use Rattle.cp0_regs.specs.Fields.{bits_of}
 use Rattle.cp0_regs.specs.State.{IsField, value_of, with_value}
 
@@ -66,3 +66,14 @@ read_back cp0 f value is_field inside fits =
     ∙ field_of_or kept put f.high f.low
     ∙ ap (λ n. bit_or n (field put f.high f.low)) (nothing_left word f.high f.low is_field.order is_field.in_word)
     ∙ all_there value f.high f.low is_field.order fits
+
+-- a write under a mask leaves a field alone with which the mask shares no bit
+pub field_apart : (mask word value high low : ℕ) → low ≤ high → bit_and mask (bits high low) ≡ 0 → bit_and (all_bits - mask) (bits high low) ≡ bits high low
+    → field (merged mask word value) high low ≡ field word high low
+field_apart mask word value high low order apart outside =
+    let none : bit_and (bit_and value mask) (bits high low) ≡ 0 = and_assoc (bits high low) value mask ∙ ap (bit_and value) apart ∙ and_comm value 0 in
+    let same : bit_and (merged mask word value) (bits high low) ≡ bit_and word (bits high low) =
+    and_or_apart (bits high low) (bit_and word (all_bits - mask)) (bit_and value mask) none
+    ∙ and_assoc (bits high low) word (all_bits - mask) ∙ ap (bit_and word) outside in
+    moved_down (field (merged mask word value) high low) low (bit_and word (bits high low)) (moved_up (merged mask word value) high low order ∙ same)
+    ∙ sym (moved_down (field word high low) low (bit_and word (bits high low)) (moved_up word high low order))

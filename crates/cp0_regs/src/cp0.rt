@@ -6,7 +6,8 @@ ghost use Rattle.cp0_regs.specs.Counting as counting;
 ghost use Rattle.cp0_regs.specs.Moves as moves;
 ghost use Rattle.cp0_regs.specs.PageMasks.{IsMask};
 ghost use Rattle.cp0_regs.specs.Registers.{possible_bits, register_of, reset_cp0};
-ghost use Rattle.cp0_regs.specs.State.{IsField, IsFree, value_of, with_value};
+ghost use Rattle.cp0_regs.specs.Fields.{device_lines};
+ghost use Rattle.cp0_regs.specs.State.{IsCp0, IsField, IsFree, value_of, with_value};
 
 use crate::fields::{DEVICE_LINES, Field, TIMER_LINE};
 use crate::page_masks::longest_run;
@@ -60,6 +61,14 @@ impl Cp0 {
         words[PRID as usize] = 0x400;
         words[CONFIG as usize] = config;
         Cp0 { words }
+    }
+
+    /// What the registers always are.
+    #[inline(always)]
+    pub fn keeps(&self)
+        ensures always { IsCp0 self.now }
+    {
+        let _ = &self.words;
     }
 
     /// A register.
@@ -131,6 +140,7 @@ impl Cp0 {
     pub fn lines(&mut self, levels: u8)
         requires levels { levels < 32 }
         ensures lines { self.new ≡ counting.with_lines self.old levels }
+        ensures shown { value_of self.new device_lines ≡ levels }
     {
         self.set_field(DEVICE_LINES, u32::from(levels));
     }
@@ -175,6 +185,7 @@ impl Cp0 {
     #[tactic(auto, unfolding(crate::specs::Counting::counted))]
     pub fn count(&mut self, wired: bool)
         ensures counted { self.new ≡ counting.counted self.old wired }
+        ensures lines { value_of self.new device_lines ≡ value_of self.old device_lines }
     {
         self.grow_count();
         self.compare_timer();

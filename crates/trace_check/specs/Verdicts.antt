@@ -1,6 +1,6 @@
 -- The verdict on a list of events: whether one breaks a rule of cache discipline, and which is the first.
 -- Source: this project's own.
-use Rattle.std.specs.Prelude.{ℕ, ◌+◌, List, fold, Option, Some, None}
+use Rattle.std.specs.Prelude.{ℕ, ◌+◌, ◌<◌, List, fold, Option, Some, None, IfSome}
 use Rattle.access_trace.specs.declared.event.Breach.{Breach}
 use Rattle.access_trace.specs.declared.event.Event.{Event}
 use Rattle.access_trace.specs.declared.event.Verdict.{Verdict}
@@ -54,6 +54,10 @@ verdict_of shape events = verdict_by (standing_of shape events).first
 abbrev pub event_by : Option Found → Option Event
 event_by None = None
 event_by (Some found) = Some found.event
+
+-- the first event that broke a rule is one of so many, of which the first has the number 0
+abbrev pub IsAmong : Option Found → ℕ → Type 0
+IsAmong first events = IfSome first (λ found. found.number < events)
 
 -- What a judge has: its ledger, how many events there were, and the first that broke a rule.
 pub record Judging : Type 0 where

@@ -3,7 +3,7 @@
 ghost use Rattle.std.specs.Prelude.{◌≡◌, ◌<◌, ◌+◌, ◌↔◌, false, IfOk, IfSome, IsNone};
 ghost use Rattle.access_trace.specs.Grammar.{IsEvent};
 ghost use Rattle.access_trace.specs.declared.event.Verdict.TheVariants.{Yes};
-ghost use Rattle.trace_check.specs.Verdicts.{event_by, held, standing_at, start, verdict_by};
+ghost use Rattle.trace_check.specs.Verdicts.{IsAmong, event_by, held, standing_at, start, verdict_by};
 
 use crate::found::Found;
 use access_trace::{Breach, Event, Verdict};
@@ -24,13 +24,14 @@ pub struct Judge {
 impl Model for Judge {
     ghost use Rattle.std.specs.Prelude.{◌≤◌, IfSome};
     ghost use Rattle.access_trace.specs.Grammar.{IsEvent};
-    ghost use Rattle.trace_check.specs.Verdicts.{Judging, event_by};
+    ghost use Rattle.trace_check.specs.Verdicts.{Judging, IsAmong, event_by};
 
     ghost Value = { Judging };
 
     ghost view = { λ judge. record { ledger = judge.ledger; events = judge.events; first = judge.first } };
 
-    ghost invariant = { λ judge. (judge.ledger.steps ≤ judge.events) × IfSome (event_by judge.first) (λ event. IsEvent event) };
+    ghost invariant = { λ judge. (judge.ledger.steps ≤ judge.events) × IfSome (event_by judge.first) (λ event. IsEvent event)
+        × IsAmong judge.first judge.events };
 }
 
 // What is found at an event that breaks a rule. It is made aside, since most events break none.
@@ -77,6 +78,7 @@ impl Judge {
         ensures event { result ≡ event_by self.now.first }
         ensures none { IsNone result ↔ (verdict_by self.now.first ≡ Yes) }
         ensures grammar { IfSome (event_by self.now.first) (λ event. IsEvent event) }
+        ensures among { IsAmong self.now.first self.now.events }
     {
         match &self.first {
             Some(found) => Some(found.event),
