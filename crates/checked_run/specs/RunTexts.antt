@@ -29,10 +29,10 @@ traced_text steps bench =
 -- ---- a trace that is read
 
 -- how matters stand with a judge after the events of a trace, or the first line of it that is bad
-abbrev pub judged_from : Numbers → Standing → Result (List Event) ℕ → Result Standing ℕ
-judged_from shape standing (Ok events) = Ok (fold (held shape) standing events)
-judged_from shape standing (Err line) = Err line
+abbrev pub judged_from : Standing → Result (List Event) ℕ → Result Standing ℕ
+judged_from standing (Ok events) = Ok (fold held standing events)
+judged_from standing (Err line) = Err line
 
--- a judge has seen all events of a trace
+-- a judge has seen all events of a trace, on a shape
 pub record HasJudged (shape : Numbers) (trace : Result (List Event) ℕ) (judge : Judging) : Type 0 where
-  pub is : judged_from shape start trace ≡ Ok (standing_at judge)
+  pub is : judged_from (start shape) trace ≡ Ok (standing_at judge)

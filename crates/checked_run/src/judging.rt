@@ -14,8 +14,7 @@ use trace_check::Judge;
 // A judge who has seen no event.
 fn new_judge(alloc: Global, shape: Shape) -> Result<Judge, TraceFault>
     requires { shape.sc ≡ false }
-    ensures shape { IfOk result (λ judge. judge.ledger.shape ≡ shape) }
-    ensures start { IfOk result (λ judge. standing_at judge ≡ start) }
+    ensures start { IfOk result (λ judge. standing_at judge ≡ start shape) }
     ensures fault { IfErr result (λ fault. fault ≡ TraceFault.Memory) }
 {
     match Judge::new(alloc, shape) {

@@ -7,8 +7,8 @@ use Rattle.checked_run.proofs.judging.judge_text.Given as goal
 -- what is left of the trace brings the judge to where the whole trace brings a new one
 abbrev pub invariant-loop-judge : goal.invariant-loop-judge
 invariant-loop-judge l =
-    (judged_from l.fn.shape (standing_at l.judge) (events_left l.reader) ≡ judged_from l.fn.shape start (trace_of l.text))
-    × (l.judge.ledger.shape ≡ l.fn.shape) × (l.judge.events + length l.reader.lines ≤ length l.text)
+    (judged_from (standing_at l.judge) (events_left l.reader) ≡ judged_from (start l.fn.shape) (trace_of l.text))
+    × (l.judge.events + length l.reader.lines ≤ length l.text)
 
 abbrev pub decreases-loop-judge : goal.decreases-loop-judge
 decreases-loop-judge l = length l.reader.lines

@@ -1,4 +1,5 @@
 use Rattle.std.proofs.Common.{OnOk, Result, Ok, Err}
+use Rattle.flat_bridge.specs.Benches.{HasRun}
 use Rattle.flat_bridge.proofs.BenchLevels.{run_was_flat}
 use Rattle.checked_run.proofs.writing.write_traced.Goals as goal
 
@@ -7,4 +8,4 @@ where_ok (Ok x) p f = f p
 where_ok (Err e) p f = p
 
 pub returns-clause-flat : goal.returns-clause-flat
-returns-clause-flat g c = where_ok c.write_run.result c.write_run.ensures.whole (run_was_flat c.args.bench.now c.calm-calm.ensures.keeps c.args.steps c.write_run.new.bench)
+returns-clause-flat g c = where_ok c.write_run.result c.write_run.ensures.whole (λ (run : HasRun c.args.steps c.args.bench.now c.write_run.new.bench). run_was_flat c.args.bench.now c.calm-calm.ensures.keeps c.args.steps run.grammar)
