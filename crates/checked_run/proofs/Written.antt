@@ -1,7 +1,7 @@
 -- A run whose events are written as they come.
 use Rattle.std.proofs.Common.{◌≡◌, ◌<◌, ◌+◌, ◌∙◌, ℕ, true, false, sym, ap, List, [], ◌++◌, append-nil, append_assoc, Some}
 use Rattle.access_trace.specs.Traces.{events_text}
-use Rattle.machine_core.specs.declared.machine_state.Machine.{Machine}
+use Rattle.machine_core.specs.Machine.{MachineState}
 use Rattle.machine_core.specs.Traced.{machine_in, tick_events}
 use Rattle.machine_core.proofs.TracedRuns.{run_events_none}
 use Rattle.machine_core.proofs.TracedTicks.{halted_events}
@@ -15,7 +15,7 @@ use Rattle.flat_bridge.specs.Benches.{Ticked, events_in}
 use Rattle.flat_bridge.proofs.BenchRuns.{events_more, events_end}
 
 -- the tick of a machine that has halted has nothing to write
-pub writes_halted : (at : Stand) (span : ℕ) (machine : Machine) (code : ℕ) → machine.cpu.halt ≡ Some code → Writes at at (events_text (tick_events span machine))
+pub writes_halted : (at : Stand) (span : ℕ) (machine : MachineState) (code : ℕ) → machine.cpu.halt ≡ Some code → Writes at at (events_text (tick_events span machine))
 writes_halted at span machine code is = writes_same at at [] (events_text (tick_events span machine)) (writes_nothing at) (ap events_text (sym (halted_events span machine code is)))
 
 -- A text was written. It and the events of what is left of a run, so many ticks from this bench on, are the events of the whole run.

@@ -2,7 +2,7 @@
 -- Source: this project's own.
 use Rattle.std.specs.Prelude.{ℕ, ◌≡◌, ◌++◌, List, fold, Option, Result, Ok, Err}
 use Rattle.access_trace.specs.declared.event.Event.{Event}
-use Rattle.machine_core.specs.declared.machine_state.Machine.{Machine}
+use Rattle.machine_core.specs.Machine.{MachineState}
 use Rattle.machine_core.specs.Run.{run_of}
 use Rattle.machine_core.specs.Shown.{shown_of}
 use Rattle.machine_core.specs.Traced.{machine_in}
@@ -17,7 +17,7 @@ use Rattle.flat_bridge.specs.Benches.{BenchState, events_in, standing_after}
 -- ---- what is written
 
 -- the report of a machine, and the verdict by the first event that broke a rule
-abbrev pub checked_text : Machine → Option Found → List ℕ
+abbrev pub checked_text : MachineState → Option Found → List ℕ
 checked_text machine first = report_of (shown_of machine) ++ verdict_text (verdict_by first) (event_by first)
 
 -- the trace of a run of at most so many ticks, and the report and the verdict at its end

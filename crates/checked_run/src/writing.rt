@@ -59,7 +59,7 @@ fn put_tick<K: Sink>(bench: &mut Bench, out: &mut K, pending: &mut Pending) -> T
         return Tick::Halted(code);
     }
     let (ticks, span) = (bench.ticks(), bench.span());
-    let answer = bench.advance();
+    let answer = bench.tick();
     put_tick_events(ticks, span, bench.log(), out, pending);
     answer
 }

@@ -5,6 +5,7 @@ use Rattle.std.specs.Option.{option_or}
 use Rattle.std.proofs.lemmas.Bool.{cases_Bool}
 use Rattle.std.proofs.lemmas.List.{append-nil}
 use Rattle.std.proofs.lemmas.List.Folds.{find-append}
+use Rattle.mips3_exec.specs.Run as runs
 use Rattle.flat_machine.specs.declared.flat_state.Flat.{Flat}
 use Rattle.flat_machine.specs.Reads.{Read}
 use Rattle.flat_machine.specs.FlatRun.{Pause, ReadTo, pause_at, move, move_of, read_before, has_ended, moves_of}
@@ -12,14 +13,14 @@ use Rattle.flat_machine.specs.FlatRun.{Pause, ReadTo, pause_at, move, move_of, r
 -- a run that has ended stays where it is
 pub ended_stays : (k ticks : ℕ) (pauses : List Pause) (flat : Flat) → has_ended ticks flat flat.cpu.halt ≡ true
     → moves_of k ticks pauses flat ≡ record { flat = flat; reads = [] }
-unfolding moves_of
+unfolding moves_of runs.moves_of
 ended_stays zero ticks pauses flat ended = refl
 ended_stays (suc k) ticks pauses flat ended = rw ended refl
 
 -- one that has not makes a move
 pub moves_on : (k ticks : ℕ) (pauses : List Pause) (flat : Flat) → has_ended ticks flat flat.cpu.halt ≡ false
     → moves_of (suc k) ticks pauses flat ≡ read_before (move_of pauses flat).reads (moves_of k ticks pauses (move_of pauses flat).flat)
-unfolding moves_of
+unfolding moves_of runs.moves_of
 moves_on k ticks pauses flat going = rw going refl
 
 -- a run that has not ended has not halted, and has ticks to make
@@ -65,7 +66,7 @@ joined before pauses end =
 -- the run to the later tick, in any number of moves that suffices
 pub one_more : (k j ticks later : ℕ) (pauses : List Pause) (flat : Flat) → k < j → GoesOnTo ticks later pauses (moves_of k ticks pauses flat)
     → moves_of j later pauses flat ≡ one_after pauses (moves_of k ticks pauses flat)
-unfolding moves_of
+unfolding moves_of runs.moves_of
 one_more zero zero ticks later pauses flat lt on = absurd (omega arith)
 one_more zero (suc j) ticks later pauses flat lt on = from_here j ticks later pauses flat on
 one_more (suc k) zero ticks later pauses flat lt on = absurd (omega arith)
@@ -95,7 +96,7 @@ or_none (Some pause) = refl
 -- a run to a tick does not see the pauses that begin at it or later
 pub later_pauses : (k ticks : ℕ) (pauses more : List Pause) (flat : Flat) → ((tick : ℕ) → tick < ticks → pause_at more tick ≡ None)
     → moves_of k ticks (pauses ++ more) flat ≡ moves_of k ticks pauses flat
-unfolding moves_of
+unfolding moves_of runs.moves_of
 later_pauses zero ticks pauses more flat none = refl
 later_pauses (suc k) ticks pauses more flat none =
     let next : ReadTo = move_of pauses flat in

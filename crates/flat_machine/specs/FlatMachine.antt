@@ -15,6 +15,7 @@ use Rattle.flat_machine.specs.declared.flat_memory.FlatMemory.{FlatMemory}
 use Rattle.flat_machine.specs.declared.flat_state.Flat.{Flat}
 use Rattle.mips3_exec.specs.declared.ticking.Tick.{Tick}
 use Rattle.mips3_exec.specs.Processor.{reset_cpu}
+use Rattle.mips3_exec.specs.Run.{State}
 use Rattle.mips3_exec.specs.Tick.{Ticked, tick_of}
 use Rattle.run_report.specs.Shown.{Shown}
 use Rattle.flat_machine.specs.FlatMemory.{flat_ask}
@@ -33,12 +34,16 @@ unfoldable pub flat_reset_of : Numbers → Prom → List ℕ → List ℕ → Li
 flat_reset_of shape prom image disk inputs =
     record { cpu = reset_cpu (config_of shape); memory = reset_memory prom image disk inputs }
 
--- a flat machine, and the answer of its last tick
+-- a flat machine as a processor beside a memory system
+abbrev pub beside_memory : Flat → State FlatMemory
+beside_memory flat = record { cpu = flat.cpu; memory = flat.memory }
+
+-- a flat machine, and the answer of its last tick or of its run
 pub record Reached : Type 0 where
   pub flat : Flat
   pub answer : Tick
 
--- what a tick with flat memory reaches, as a flat machine
+-- what a tick or a run with flat memory reaches, as a flat machine
 abbrev pub reached : Ticked FlatMemory → Reached
 reached ticked = record { flat = record { cpu = ticked.cpu; memory = ticked.memory }; answer = ticked.answer }
 

@@ -1,27 +1,20 @@
 -- Runs of the flat machine: one of ticks alone, and one that is paused at the ticks of a list.
 -- Source: this project's own.
-use Rattle.std.specs.Prelude.{ℕ, zero, suc, ◌==◌, Bool, true, nat_le, List, [], ◌++◌, Option, Some, None, if◌then◌else◌}
+use Rattle.std.specs.Prelude.{ℕ, ◌==◌, Bool, true, nat_le, List, [], ◌++◌, Option, Some, None, if◌then◌else◌}
 use Rattle.std.specs.List.{find}
 use Rattle.flat_machine.specs.declared.flat_state.Flat.{Flat}
-use Rattle.mips3_exec.specs.declared.ticking.Tick.{Tick}
-use Rattle.mips3_exec.specs.declared.ticking.Tick.TheVariants.{Ran, Trapped, Halted}
+use Rattle.mips3_exec.specs.Run.{Moved, stays, run_of}
+use Rattle.mips3_exec.specs.Run as runs
 use Rattle.flat_machine.specs.FlatMemory.{flat_ask}
-use Rattle.flat_machine.specs.FlatMachine.{Reached, flat_tick_of}
+use Rattle.flat_machine.specs.FlatMachine.{Reached, reached, beside_memory, flat_tick_of}
 use Rattle.flat_machine.specs.Pause.{pause_of}
 use Rattle.flat_machine.specs.Reads.{Read, tick_reads}
 
 -- ---- ticks alone
 
--- goes on by a function where the tick ran or took an exception, and ends there otherwise
-abbrev pub go_on : (Flat → Reached) → Flat → Tick → Reached
-go_on next flat Ran = next flat
-go_on next flat (Trapped code) = next flat
-go_on next flat (Halted code) = record { flat = flat; answer = Halted code }
-
--- the end of a run of at most so many ticks
+-- the end of a run of at most so many ticks, held with flat memory
 unfoldable pub flat_run_of : ℕ → Flat → Reached
-flat_run_of zero flat = record { flat = flat; answer = Ran }
-flat_run_of (suc n) flat = go_on (flat_run_of n) (flat_tick_of flat).flat (flat_tick_of flat).answer
+flat_run_of n flat = reached (run_of flat_ask n (beside_memory flat))
 
 -- ---- with pauses
 
@@ -57,12 +50,21 @@ abbrev pub has_ended : ℕ → Flat → Option ℕ → Bool
 has_ended ticks flat (Some code) = true
 has_ended ticks flat None = nat_le ticks flat.cpu.ticks
 
+-- a move after which the run may go on, of which the reads are gathered
+abbrev pub going : ReadTo → Moved Flat (Unit {0}) Read
+going to = record { state = to.flat; gathered = to.reads; end = None }
+
+-- one move, unless the run has ended
+abbrev pub move_unless_ended : ℕ → List Pause → Flat → Moved Flat (Unit {0}) Read
+move_unless_ended ticks pauses flat = if has_ended ticks flat flat.cpu.halt then stays flat (Some tt) else going (move_of pauses flat)
+
+-- the flat machine after some moves, and what was read in them
+abbrev pub read_to : Moved Flat (Unit {0}) Read → ReadTo
+read_to moved = record { flat = moved.state; reads = moved.gathered }
+
 -- the run in so many moves, which ends at a halt or once so many ticks are made
 unfoldable pub moves_of : ℕ → ℕ → List Pause → Flat → ReadTo
-moves_of zero ticks pauses flat = record { flat = flat; reads = [] }
-moves_of (suc n) ticks pauses flat =
-    if has_ended ticks flat flat.cpu.halt then record { flat = flat; reads = [] }
-    else read_before (move_of pauses flat).reads (moves_of n ticks pauses (move_of pauses flat).flat)
+moves_of n ticks pauses flat = read_to (runs.moves_of (move_unless_ended ticks pauses) n flat)
 
 -- The run that makes a pause at each tick where one of the list begins and a tick at all others, up to a halt or so many ticks. Every
 -- move makes a tick at least, so it needs no more moves than ticks.

@@ -11,7 +11,7 @@ use dma_devices::RecordedDevices;
 use elf_image::{Image, load};
 use flat_ram::{Prom, Ram};
 use input_script::Script;
-use mips3_exec::{Cpu, Tick, make_tick};
+use mips3_exec::{Cpu, Tick, make_run, make_tick};
 use r4_shape::Shape;
 use r4_words::Memory;
 use run_report::View;
@@ -73,19 +73,12 @@ impl Flat {
     }
 
     /// Makes so many ticks, up to one that halts.
-    #[tactic(auto, using(crate::proofs::Runs::run_of_none, crate::proofs::Runs::run_of_ran, crate::proofs::Runs::run_of_stopped))]
     pub fn run(&mut self, steps: u32) -> Tick
         requires { self.old.cpu.ticks + steps < 2 ^ 32 }
         ensures flat { self.new ≡ (flat_run_of steps self.old).flat }
         ensures answer { result ≡ (flat_run_of steps self.old).answer }
     {
-        for step in 0..steps {
-            match self.tick() {
-                Tick::Ran | Tick::Trapped(_) => {}
-                end => return end,
-            }
-        }
-        Tick::Ran
+        make_run(&mut self.cpu, &mut self.memory, steps)
     }
 
     // Makes a tick without a step.

@@ -4,3 +4,4 @@ pub mod TableFacts
 pub mod EffectFacts
 pub mod Talks
 pub mod System
+pub mod Runs

@@ -9,3 +9,4 @@ pub mod References
 pub mod SystemControl
 pub mod Step
 pub mod Tick
+pub mod Run

@@ -12,7 +12,7 @@
 //!
 //! Reading order: the effects, the operands of an instruction, the bytes that an operation moves, what loads and stores make
 //! of them, and the effect of each operation; then the talk, the processor's state, the routes of addresses to memory, the
-//! references to memory, the instructions of coprocessor 0, the step, and the tick.
+//! references to memory, the instructions of coprocessor 0, the step, the tick, and the run (`specs/Run.antt`).
 #![tactic(auto)]
 
 mod accesses;
@@ -34,4 +34,4 @@ pub use executing::effect;
 pub use merging::{loaded, stored};
 pub use processor::Cpu;
 pub use talk::{Access, MemorySystem, Reply, Request, StepEnd};
-pub use ticking::{Tick, make_tick};
+pub use ticking::{Tick, make_run, make_tick};

@@ -1,8 +1,9 @@
-//! The tick over any memory system.
+//! The tick and the run over any memory system.
 
-ghost use Rattle.std.specs.Prelude.{◌≡◌, ℕ, ◌<◌, ◌+◌, Some, true};
+ghost use Rattle.std.specs.Prelude.{◌≡◌, ℕ, ◌<◌, ◌+◌, ◌^◌, Some, true};
 ghost use Rattle.mips3_exec.specs.declared.talk.Request.TheVariants.{Levels};
 ghost use Rattle.mips3_exec.specs.declared.ticking.Tick.TheVariants.{Halted};
+ghost use Rattle.mips3_exec.specs.Run.{run_of};
 ghost use Rattle.mips3_exec.specs.Talk.{hold};
 ghost use Rattle.mips3_exec.specs.Tick as law;
 
@@ -102,4 +103,20 @@ pub fn make_tick<M: MemorySystem>(cpu: &mut Cpu, memory: &mut M) -> Tick
             None => Tick::Ran,
         },
     }
+}
+
+/// Makes so many ticks, up to one that halts.
+pub fn make_run<M: MemorySystem>(cpu: &mut Cpu, memory: &mut M, steps: u32) -> Tick
+    requires { cpu.old.ticks + steps < 2 ^ 32 }
+    ensures answer { result ≡ (run_of M.ask_gives steps (record { cpu = cpu.old; memory = memory.old })).answer }
+    ensures cpu { cpu.new ≡ (run_of M.ask_gives steps (record { cpu = cpu.old; memory = memory.old })).cpu }
+    ensures memory { memory.new ≡ (run_of M.ask_gives steps (record { cpu = cpu.old; memory = memory.old })).memory }
+{
+    for step in 0..steps {
+        match make_tick(cpu, memory) {
+            Tick::Ran | Tick::Trapped(_) => {}
+            end => return end,
+        }
+    }
+    Tick::Ran
 }

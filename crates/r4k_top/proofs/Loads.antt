@@ -2,8 +2,7 @@
 use Rattle.std.proofs.Common.{◌≡◌, ◌∙◌, ◌+◌, ℕ, List, [], ◌++◌, length, length-append, Option, Some, None, ap, sym}
 use Rattle.std.proofs.lemmas.List.{append-nil}
 use Rattle.elf_image.specs.Written.{elf_header, program_header, image_of}
-use Rattle.machine_core.specs.declared.machine_state.Machine.{Machine}
-use Rattle.machine_core.specs.Machine.{reset_of}
+use Rattle.machine_core.specs.Machine.{MachineState}
 use Rattle.machine_core.specs.Run.{run_of}
 use Rattle.machine_core.specs.Traced.{machine_in, run_events}
 use Rattle.r4_ports.specs.Told.{Files, Call, Appended}
@@ -23,12 +22,11 @@ unfolding image_of elf_header program_header
 length_image base entry body = length-append (elf_header entry ++ program_header base (length body)) body
 
 -- the run of a bench from its beginning
-pub load_made : (words steps : ℕ) (name image : List ℕ) (old new : BenchState) →
-    Begins load_shape (reset_of load_shape boot_prom image [] []) old → HasRun steps old new →
-    run_load words steps name image ≡ Makes (summed_up words name image new.judge.first (machine_in new.machine))
+pub load_made : (words steps : ℕ) (name image : List ℕ) (reset : MachineState) (old new : BenchState) →
+    Begins load_shape reset old → HasRun steps old new →
+    run_load words steps name image reset ≡ Makes (summed_up words name image new.judge.first (machine_in new.machine))
 unfolding run_load
-load_made words steps name image old new begins run =
-    let reset : Machine = reset_of load_shape boot_prom image [] [] in
+load_made words steps name image reset old new begins run =
     let machine : machine_in new.machine ≡ (run_of steps reset).machine = machine_run_from_reset load_shape reset old begins steps new run in
     let first : new.judge.first ≡ (standing_of load_shape (run_events steps 0 reset)).first =
     ap (λ (standing : Standing). standing.first) run.standing ∙ first_of_reset load_shape reset old begins (events_in steps old)
@@ -40,13 +38,13 @@ no_calls : (told : Option (List Call)) → Appended told told []
 no_calls None = tt
 no_calls (Some calls) = sym (append-nil calls)
 
-put_name_is : (number count : ℕ) (name : List ℕ) (made : Made) → load_job number count name ≡ Makes made → file_name made.file ≡ Some name
+put_name_is : (number count : ℕ) (name : List ℕ) (made : Made) → load_job boot_prom number count name ≡ Makes made → file_name made.file ≡ Some name
 unfolding run_load
 put_name_is number count name made e = sym (made_here _ made e)
 
 -- nothing is fetched for it
 pub load_of_command : (held : Option Files) (asked : Option (List Call)) (number count : ℕ) (name : List ℕ) (made : Made) →
-    load_job number count name ≡ Makes made → MadeOf (Some (Make number count name)) held asked asked made
+    load_job boot_prom number count name ≡ Makes made → MadeOf (Some (Make number count name)) held asked asked made
 load_of_command held asked number count name made e =
     made_of _ _ _ _ _ (all_accepted (Make number count name) held (Makes made) tt (λ files told. e))
     (put_name_is number count name made e) (no_calls asked)

@@ -7,7 +7,8 @@ use Rattle.input_script.specs.declared.inputs.Input.{Input}
 use Rattle.input_script.specs.Grammar.{Inputs, script_text}
 use Rattle.r4_shape.specs.Numbers.{Numbers}
 use Rattle.access_trace.specs.declared.event.Event.{Event}
-use Rattle.machine_core.specs.declared.machine_state.Machine.{Machine}
+use Rattle.machine_core.specs.Machine.{MachineState, reset_of}
+use Rattle.r4k_top.specs.BootProm.{boot_prom}
 use Rattle.r4k_top.specs.declared.telling.Telling.{Telling}
 use Rattle.r4k_top.specs.declared.telling.Telling.TheVariants as telling
 use Rattle.machine_core.specs.Shown.{shown_of}
@@ -287,14 +288,14 @@ script_told held (Some name) inputs is files told = of_told held name (λ bytes.
 
 -- the run of a setup is that of the plan's files
 pub setup_told : (held : Option Files) (plan : Plan) (image : List ℕ) (inputs : List Input) (disk : List ℕ) → IsSetup held plan image inputs disk →
-    (files : Files) → held ≡ Some files → job_of (Run plan) (file_of files) ≡ run_job plan.telling plan.shape plan.steps (disk_out plan.disk) image inputs disk
+    (files : Files) → held ≡ Some files → job_of (Run plan) (file_of files) ≡ run_job plan.telling plan.shape plan.steps (disk_out plan.disk) (reset_of plan.shape boot_prom image disk inputs)
 setup_told held plan image inputs disk is files told =
     let a = of_told held plan.image (λ bytes. image ≡ bytes) is.image_is files told in
     let b = script_told held plan.script inputs is.inputs_are files told in
     let c = given_told held plan.disk (λ bytes. disk ≡ bytes) is.disk_is files told in
-    ap (run_by plan (file_of files plan.image) (bytes_given (file_of files) plan.disk)) b
-    ∙ ap (λ (i : List ℕ). run_job plan.telling plan.shape plan.steps (disk_out plan.disk) i inputs (bytes_given (file_of files) plan.disk)) (sym a)
-    ∙ ap (run_job plan.telling plan.shape plan.steps (disk_out plan.disk) image inputs) (sym c)
+    ap (run_by boot_prom plan (file_of files plan.image) (bytes_given (file_of files) plan.disk)) b
+    ∙ ap (λ (i : List ℕ). run_job plan.telling plan.shape plan.steps (disk_out plan.disk) (reset_of plan.shape boot_prom i (bytes_given (file_of files) plan.disk) inputs)) (sym a)
+    ∙ ap (λ (d : List ℕ). run_job plan.telling plan.shape plan.steps (disk_out plan.disk) (reset_of plan.shape boot_prom image d inputs)) (sym c)
 
 -- the name of a named file
 name_of_file : (out : Option (List ℕ)) (bytes : List ℕ) → file_name (named_file out bytes) ≡ out
@@ -308,17 +309,16 @@ made_here a b e = ap (λ (made : Made). file_name made.file) (made_same a b e)
     made_same a b e = cc
 
 -- a run makes a file of the name that it was given, whatever it tells
-told_file : (telling : Telling) (shape : Numbers) (out : Option (List ℕ)) (events : List Event) (machine : Machine) (made : Made) →
+told_file : (telling : Telling) (shape : Numbers) (out : Option (List ℕ)) (events : List Event) (machine : MachineState) (made : Made) →
     told telling shape out events machine ≡ Makes made → file_name made.file ≡ out
 told_file telling.Report shape out events machine made e = sym (made_here _ made e) ∙ name_of_file out (shown_of machine).disk
 told_file telling.Verdict shape out events machine made e = sym (made_here _ made e) ∙ name_of_file out (shown_of machine).disk
 told_file telling.Trace shape out events machine made e = sym (made_here _ made e) ∙ name_of_file out (shown_of machine).disk
 
-pub disk_alone : (telling : Telling) (shape : Numbers) (steps : ℕ) (out : Option (List ℕ)) (image : List ℕ) (inputs : List Input) (disk : List ℕ) (made : Made) →
-    run_job telling shape steps out image inputs disk ≡ Makes made → file_name made.file ≡ out
+pub disk_alone : (telling : Telling) (shape : Numbers) (steps : ℕ) (out : Option (List ℕ)) (machine : MachineState) (made : Made) →
+    run_job telling shape steps out machine ≡ Makes made → file_name made.file ≡ out
 unfolding run_job
-disk_alone telling shape steps out image inputs disk made e =
-    told_file telling shape out (trace_from shape steps image inputs disk) (run_from shape steps image inputs disk).machine made e
+disk_alone telling shape steps out machine made e = told_file telling shape out (trace_from steps machine) (run_from steps machine).machine made e
 
 -- what `?` hands on is the error that came
 pub handed_on : {A E : Type 0} (P : E → Type 0) (result : Result A E) (error : E) → IsErrAnd result (λ e. e ≡ error) → P error → IfErr result P

@@ -35,7 +35,11 @@ traced_shown out steps bench =
 -- what is made already
 abbrev pub finished_shown : Finished → Made
 finished_shown (finished.Report machine out) =
-    record { verdict = None; text = report_of (shown_of machine); file = named_file (out_shown out) (shown_of machine).disk }
+    record {
+      verdict = None;
+      text = report_of (shown_of (machine_in machine));
+      file = named_file (out_shown out) (shown_of (machine_in machine)).disk;
+    }
 finished_shown (finished.Checked bench out) = checked (out_shown out) [] bench.judge.first (machine_in bench.machine)
 finished_shown (finished.Judged judge) = judged judge.first
 finished_shown (finished.Listing image) = record { verdict = None; text = listing_of image; file = None }

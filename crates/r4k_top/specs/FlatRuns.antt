@@ -5,12 +5,13 @@
 use Rattle.std.specs.Prelude.{◌≡◌, ℕ, List, Option, Some, None}
 use Rattle.access_trace.specs.declared.event.Verdict.TheVariants.{Yes}
 use Rattle.flat_machine.specs.declared.flat_state.Flat.{Flat}
+use Rattle.flat_ram.specs.declared.memory.Prom.{Prom}
 use Rattle.flat_machine.specs.FlatMachine.{flat_reset_of, flat_shown_of}
 use Rattle.flat_machine.specs.FlatMemory.{flat_ask}
 use Rattle.flat_machine.specs.FlatRun.{flat_run_of}
 use Rattle.flat_bridge.specs.RunReads.{run_reads, reads_in}
-use Rattle.input_script.specs.declared.inputs.Input.{Input}
 use Rattle.input_script.specs.Grammar as script
+use Rattle.machine_core.specs.Machine.{MachineState, reset_of}
 use Rattle.machine_core.specs.Shown.{shown_of}
 use Rattle.r4_ports.specs.Told.{Files, file_of}
 use Rattle.r4_shape.specs.Numbers.{Numbers}
@@ -21,40 +22,35 @@ use Rattle.r4k_top.specs.declared.telling.Telling.TheVariants as telling
 use Rattle.r4k_top.specs.Command.{Plan, Command, Run}
 use Rattle.r4k_top.specs.Outcome.{bytes_given, script_given, run_from, trace_from}
 
--- the flat machine at reset, with the bytes of an image, a disk and the inputs of a script
-abbrev pub flat_from : Numbers → List ℕ → List Input → List ℕ → Flat
-flat_from shape image inputs disk = flat_reset_of shape boot_prom image disk inputs
+-- The run from a machine is that from a flat machine: both show the same at the end, and read the same on the way.
+pub record RunIsFlat (steps : ℕ) (machine : MachineState) (flat : Flat) : Type 0 where
+  pub view : shown_of (run_from steps machine).machine ≡ flat_shown_of (flat_run_of steps flat).flat
+  pub reads : reads_in (trace_from steps machine) ≡ run_reads flat_ask steps flat.memory flat.cpu
 
--- The run of a shape from reset is that of the flat machine: both show the same at the end, and read the same on the way.
-pub record RunIsFlat (shape : Numbers) (steps : ℕ) (image : List ℕ) (inputs : List Input) (disk : List ℕ) : Type 0 where
-  pub view : shown_of (run_from shape steps image inputs disk).machine
-      ≡ flat_shown_of (flat_run_of steps (flat_from shape image inputs disk)).flat
-  pub reads : reads_in (trace_from shape steps image inputs disk)
-      ≡ run_reads flat_ask steps (flat_from shape image inputs disk).memory (flat_from shape image inputs disk).cpu
-
--- It is where the verdict on its trace is yes.
-abbrev pub IsFlatWhereYes : Numbers → ℕ → List ℕ → List Input → List ℕ → Type 0
-IsFlatWhereYes shape steps image inputs disk =
-    verdict_of shape (trace_from shape steps image inputs disk) ≡ Yes → RunIsFlat shape steps image inputs disk
+-- It is where the verdict on its trace, on a shape, is yes.
+abbrev pub IsFlatWhereYes : Numbers → ℕ → MachineState → Flat → Type 0
+IsFlatWhereYes shape steps machine flat = verdict_of shape (trace_from steps machine) ≡ Yes → RunIsFlat steps machine flat
 
 -- a run whose report alone is told has no verdict
-abbrev pub ToldFlat : Telling → Numbers → ℕ → List ℕ → List Input → List ℕ → Type 0
-ToldFlat telling.Report shape steps image inputs disk = Unit {0}
-ToldFlat telling.Verdict shape steps image inputs disk = IsFlatWhereYes shape steps image inputs disk
-ToldFlat telling.Trace shape steps image inputs disk = IsFlatWhereYes shape steps image inputs disk
+abbrev pub ToldFlat : Telling → Numbers → ℕ → MachineState → Flat → Type 0
+ToldFlat telling.Report shape steps machine flat = Unit {0}
+ToldFlat telling.Verdict shape steps machine flat = IsFlatWhereYes shape steps machine flat
+ToldFlat telling.Trace shape steps machine flat = IsFlatWhereYes shape steps machine flat
 
--- the run of a plan, over the bytes of its image and of its disk, by what its script says
-abbrev pub PlanIsFlat : Plan → List ℕ → List ℕ → script.ScriptText → Type 0
-PlanIsFlat plan image disk (script.Inputs inputs) = ToldFlat plan.telling plan.shape plan.steps image inputs disk
-PlanIsFlat plan image disk (script.Bad line reason) = Unit {0}
+-- the run of a plan from reset, with a PROM, over the bytes of its image and of its disk, by what its script says
+abbrev pub PlanIsFlat : Prom → Plan → List ℕ → List ℕ → script.ScriptText → Type 0
+PlanIsFlat prom plan image disk (script.Inputs inputs) =
+    ToldFlat plan.telling plan.shape plan.steps (reset_of plan.shape prom image disk inputs)
+    (flat_reset_of plan.shape prom image disk inputs)
+PlanIsFlat prom plan image disk (script.Bad line reason) = Unit {0}
 
 -- over the files that are held, where they are told
-abbrev pub PlanIsFlatOver : Plan → Option Files → Type 0
-PlanIsFlatOver plan None = Unit {0}
-PlanIsFlatOver plan (Some files) =
-    PlanIsFlat plan (file_of files plan.image) (bytes_given (file_of files) plan.disk) (script_given (file_of files) plan.script)
+abbrev pub PlanIsFlatOver : Prom → Plan → Option Files → Type 0
+PlanIsFlatOver prom plan None = Unit {0}
+PlanIsFlatOver prom plan (Some files) =
+    PlanIsFlat prom plan (file_of files plan.image) (bytes_given (file_of files) plan.disk) (script_given (file_of files) plan.script)
 
 -- what the words promise of a run; the other commands run nothing
 abbrev pub YesIsFlat : Option Command → Option Files → Type 0
-YesIsFlat (Some (Run plan)) held = PlanIsFlatOver plan held
+YesIsFlat (Some (Run plan)) held = PlanIsFlatOver boot_prom plan held
 YesIsFlat _ held = Unit {0}

@@ -2,14 +2,14 @@
 -- what is made of them, or why nothing is. What stands after an answer is said of it once for all commands.
 use Rattle.std.specs.Prelude.{ℕ, List, [], ◌∷◌, ◌++◌, length, Option, Some, None, Result, Ok, Err}
 use Rattle.elf_image.specs.Written.{image_of}
+use Rattle.flat_ram.specs.declared.memory.Prom.{Prom}
 use Rattle.mips_asm.specs.Assembly.{Assembly, Image, Bad, assembled}
 use Rattle.image_listing.specs.Listing.{listing_of}
 use Rattle.r4_shape.specs.Numbers.{Numbers, primary_alone}
 use Rattle.load_maker.specs.Program.{program, program_base, program_ticks, word_bytes}
 use Rattle.load_maker.specs.declared.summary.Summary.{Summary}
 use Rattle.load_maker.specs.Summary.{summary_text}
-use Rattle.machine_core.specs.declared.machine_state.Machine.{Machine}
-use Rattle.machine_core.specs.Machine.{Reached, reset_of}
+use Rattle.machine_core.specs.Machine.{MachineState, Reached, reset_of}
 use Rattle.machine_core.specs.Run.{run_of}
 use Rattle.machine_core.specs.Shown.{shown_of}
 use Rattle.machine_core.specs.Traced.{run_events}
@@ -71,23 +71,23 @@ named_file None bytes = None
 named_file (Some name) bytes = Some (record { name = name; bytes = bytes })
 
 -- a machine is reported, and its disk is put under a name, where there is one
-abbrev pub report_at : Option (List ℕ) → Machine → End
+abbrev pub report_at : Option (List ℕ) → MachineState → End
 report_at out machine =
     Makes (record { verdict = None; text = report_of (shown_of machine); file = named_file out (shown_of machine).disk })
 
--- the run of a shape from reset with the bytes of an image, the inputs of a script and the bytes of a disk
-abbrev pub run_from : Numbers → ℕ → List ℕ → List Input → List ℕ → Reached
-run_from shape steps image inputs disk = run_of steps (reset_of shape boot_prom image disk inputs)
+-- the run from a machine within a bound on its ticks
+abbrev pub run_from : ℕ → MachineState → Reached
+run_from steps machine = run_of steps machine
 
 -- THE VERDICT ON A RUN
 
--- the trace of such a run, which begins outside every span
-abbrev pub trace_from : Numbers → ℕ → List ℕ → List Input → List ℕ → List Event
-trace_from shape steps image inputs disk = run_events steps 0 (reset_of shape boot_prom image disk inputs)
+-- the trace of such a run, from a machine outside every span
+abbrev pub trace_from : ℕ → MachineState → List Event
+trace_from steps machine = run_events steps 0 machine
 
 -- behind a text the report of a machine and the verdict by the first event that broke a rule; and its disk put under a name,
 -- where there is one
-abbrev pub checked : Option (List ℕ) → List ℕ → Option Found → Machine → Made
+abbrev pub checked : Option (List ℕ) → List ℕ → Option Found → MachineState → Made
 checked out before first machine = record {
   verdict = Some (verdict_by first);
   text = before ++ checked_text machine first;
@@ -95,22 +95,22 @@ checked out before first machine = record {
 }
 
 -- what is told of a run: its report, with the verdict on its trace, or with its trace before both
-abbrev pub told : Telling → Numbers → Option (List ℕ) → List Event → Machine → End
+abbrev pub told : Telling → Numbers → Option (List ℕ) → List Event → MachineState → End
 told telling.Report shape out events machine = report_at out machine
 told telling.Verdict shape out events machine = Makes (checked out [] (standing_of shape events).first machine)
 told telling.Trace shape out events machine = Makes (checked out (trace_text events) (standing_of shape events).first machine)
 
--- what such a run comes to, within a bound on its ticks, with the changed disk put under a name, where there is one
-unfoldable pub run_job : Telling → Numbers → ℕ → Option (List ℕ) → List ℕ → List Input → List ℕ → End
-run_job telling shape steps out image inputs disk =
-    told telling shape out (trace_from shape steps image inputs disk) (run_from shape steps image inputs disk).machine
+-- what such a run of a shape comes to, with the changed disk put under a name, where there is one
+unfoldable pub run_job : Telling → Numbers → ℕ → Option (List ℕ) → MachineState → End
+run_job telling shape steps out machine = told telling shape out (trace_from steps machine) (run_from steps machine).machine
 
 -- THE FILES OF A PLAN
 
--- what the run of a plan comes to, over the bytes of its image and of its disk, by what its script says
-abbrev pub run_by : Plan → List ℕ → List ℕ → script.ScriptText → End
-run_by plan image disk (script.Inputs inputs) = run_job plan.telling plan.shape plan.steps (disk_out plan.disk) image inputs disk
-run_by plan image disk (script.Bad line reason) = Refuses (Unreadable line reason)
+-- what the run of a plan from reset comes to, with a PROM, over the bytes of its image and of its disk, by what its script says
+abbrev pub run_by : Prom → Plan → List ℕ → List ℕ → script.ScriptText → End
+run_by prom plan image disk (script.Inputs inputs) =
+    run_job plan.telling plan.shape plan.steps (disk_out plan.disk) (reset_of plan.shape prom image disk inputs)
+run_by prom plan image disk (script.Bad line reason) = Refuses (Unreadable line reason)
 
 -- THE VERDICT ON A TRACE
 
@@ -148,7 +148,7 @@ abbrev pub load_image : ℕ → ℕ → List ℕ
 load_image number count = image_of program_base program_base (word_bytes (program number count))
 
 -- what is told of the run of so many words, by the first event that broke a rule and the machine at its end
-abbrev pub summary_by : ℕ → Option Found → Machine → Summary
+abbrev pub summary_by : ℕ → Option Found → MachineState → Summary
 summary_by words first machine = record {
   words = words;
   ticks = (shown_of machine).ticks;
@@ -157,32 +157,37 @@ summary_by words first machine = record {
 }
 
 -- its summary, and the image put under a name; the job is done whatever the verdict is
-abbrev pub summed_up : ℕ → List ℕ → List ℕ → Option Found → Machine → Made
+abbrev pub summed_up : ℕ → List ℕ → List ℕ → Option Found → MachineState → Made
 summed_up words name image first machine = record {
   verdict = None;
   text = summary_text (summary_by words first machine);
   file = Some (record { name = name; bytes = image });
 }
 
--- an image that is run on that shape within a bound, without a script and a disk
-unfoldable pub run_load : ℕ → ℕ → List ℕ → List ℕ → End
-run_load words steps name image =
-    Makes (summed_up words name image (standing_of load_shape (trace_from load_shape steps image [] [])).first
-    (run_from load_shape steps image [] []).machine)
+-- an image that is run on that shape within a bound, from a machine
+unfoldable pub run_load : ℕ → ℕ → List ℕ → List ℕ → MachineState → End
+run_load words steps name image machine =
+    Makes (summed_up words name image (standing_of load_shape (trace_from steps machine)).first (run_from steps machine).machine)
+
+-- an image that is run so from reset, with a PROM, without a script and a disk
+abbrev pub load_from_reset : Prom → ℕ → ℕ → List ℕ → List ℕ → End
+load_from_reset prom words steps name image = run_load words steps name image (reset_of load_shape prom image [] [])
 
 -- the load of a number, with so many turns
-abbrev pub load_job : ℕ → ℕ → List ℕ → End
-load_job number count name = run_load (length (program number count)) (program_ticks count) name (load_image number count)
+abbrev pub load_job : Prom → ℕ → ℕ → List ℕ → End
+load_job prom number count name =
+    load_from_reset prom (length (program number count)) (program_ticks count) name (load_image number count)
 
 -- ALL COMMANDS
 
--- what the job of a command comes to, over the bytes that stand under each name, where no file is refused
+-- what the job of a command comes to, over the bytes that stand under each name, where no file is refused. A machine that is run has
+-- the PROM of this workstation.
 abbrev pub job_of : Command → (List ℕ → List ℕ) → End
-job_of (Run plan) held = run_by plan (held plan.image) (bytes_given held plan.disk) (script_given held plan.script)
+job_of (Run plan) held = run_by boot_prom plan (held plan.image) (bytes_given held plan.disk) (script_given held plan.script)
 job_of (Judge shape trace) held = judge_job shape (trace_of (held trace))
 job_of (Assemble source out) held = put_image out (assembled (held source))
 job_of (Disassemble image) held = list_job (held image)
-job_of (Make number count out) held = load_job number count out
+job_of (Make number count out) held = load_job boot_prom number count out
 
 -- What the words come to: the fetches that are made, and the end.
 pub record Outcome : Type 0 where

@@ -3,9 +3,11 @@
 
 ghost use Rattle.std.specs.Prelude.{◌≡◌, ◌≤◌, [], length, IfOk, IfErr, OnOk, Some};
 ghost use Rattle.r4_ports.specs.Told.{Rose, Appended};
+ghost use Rattle.flat_machine.specs.FlatMachine.{flat_reset_of};
 ghost use Rattle.machine_core.specs.Machine.{reset_of};
 ghost use Rattle.machine_core.specs.Traced.{machine_in};
-ghost use Rattle.flat_bridge.specs.Beside.{newest_of};
+ghost use Rattle.trace_check.specs.Verdicts.{book_of};
+ghost use Rattle.flat_bridge.specs.Beside.{StandsBeside};
 ghost use Rattle.flat_bridge.specs.Benches.{Begins};
 ghost use Rattle.r4k_top.specs.BootProm.{boot_prom};
 ghost use Rattle.r4k_top.specs.Command as law;
@@ -15,7 +17,7 @@ ghost use Rattle.r4k_top.specs.Outcome as outcome;
 ghost use Rattle.r4k_top.specs.Outcome.{Makes, Refuses, run_job, load_shape, load_job};
 ghost use Rattle.r4k_top.specs.Answers.{status_of};
 ghost use Rattle.r4k_top.specs.EndShown.{out_shown, made_shown, RunWillBeFlat};
-ghost use Rattle.r4k_top.specs.FlatRuns.{flat_from, IsFlatWhereYes, ToldFlat, YesIsFlat};
+ghost use Rattle.r4k_top.specs.FlatRuns.{IsFlatWhereYes, ToldFlat, YesIsFlat};
 ghost use Rattle.r4k_top.specs.Making.{MayStop, AllAccepted, fetches, MadeOf, StoppedWith, IsSetup};
 
 use crate::commands::Command;
@@ -61,7 +63,6 @@ fn name_out(alloc: Global, plan: &Plan<'_>) -> Result<Option<String>, Status>
 }
 
 // Runs an image from reset for at most so many ticks, for its report.
-#[tactic(auto, unfolding(crate::specs::Outcome::run_job))]
 fn report_run<'a>(
     alloc: Global,
     plan: &Plan<'_>,
@@ -70,7 +71,7 @@ fn report_run<'a>(
 ) -> Result<Product<'a>, Status>
     requires { length setup.disk.items ≤ disk_limit }
     ensures made { IfOk result (λ product. run_job Telling.Report plan.now.shape plan.now.steps (out_shown out)
-        setup.image setup.script setup.disk.items ≡ Makes (made_shown product)) }
+        (reset_of plan.now.shape boot_prom setup.image setup.disk.items setup.script) ≡ Makes (made_shown product)) }
     ensures stopped { IfErr result (λ status. status ≡ Status.Memory) }
 {
     let Setup {
@@ -89,8 +90,8 @@ fn start_bench(alloc: Global, plan: &Plan<'_>, setup: Setup) -> Result<Bench, St
     requires { length setup.disk.items ≤ disk_limit }
     ensures begins { IfOk result (Begins plan.now.shape
         (reset_of plan.now.shape boot_prom setup.image setup.disk.items setup.script)) }
-    ensures flat { IfOk result (λ bench. newest_of (machine_in bench.machine) ≡
-        flat_from plan.now.shape setup.image setup.script setup.disk.items) }
+    ensures flat { IfOk result (λ bench. StandsBeside (machine_in bench.machine) (book_of bench.judge)
+        (flat_reset_of plan.now.shape boot_prom setup.image setup.disk.items setup.script)) }
     ensures stopped { IfErr result (λ status. status ≡ Status.Memory) }
 {
     let Setup {
@@ -112,9 +113,10 @@ fn check_run<'a>(
 ) -> Result<Product<'a>, Status>
     requires { length setup.disk.items ≤ disk_limit }
     ensures made { IfOk result (λ product. run_job Telling.Verdict plan.now.shape plan.now.steps (out_shown out)
-        setup.image setup.script setup.disk.items ≡ Makes (made_shown product)) }
+        (reset_of plan.now.shape boot_prom setup.image setup.disk.items setup.script) ≡ Makes (made_shown product)) }
     ensures flat { OnOk result
-        (IsFlatWhereYes plan.now.shape plan.now.steps setup.image setup.script setup.disk.items) }
+        (IsFlatWhereYes plan.now.shape plan.now.steps (reset_of plan.now.shape boot_prom setup.image setup.disk.items setup.script)
+        (flat_reset_of plan.now.shape boot_prom setup.image setup.disk.items setup.script)) }
     ensures stopped { IfErr result (λ status. status ≡ Status.Memory) }
 {
     let mut bench = start_bench(alloc, plan, setup)?;
@@ -132,9 +134,10 @@ fn trace_run<'a>(
 ) -> Result<Product<'a>, Status>
     requires { length setup.disk.items ≤ disk_limit }
     ensures made { IfOk result (λ product. run_job Telling.Trace plan.now.shape plan.now.steps (out_shown out)
-        setup.image setup.script setup.disk.items ≡ Makes (made_shown product)) }
+        (reset_of plan.now.shape boot_prom setup.image setup.disk.items setup.script) ≡ Makes (made_shown product)) }
     ensures flat { IfOk result (λ product. RunWillBeFlat product →
-        IsFlatWhereYes plan.now.shape plan.now.steps setup.image setup.script setup.disk.items) }
+        IsFlatWhereYes plan.now.shape plan.now.steps (reset_of plan.now.shape boot_prom setup.image setup.disk.items setup.script)
+        (flat_reset_of plan.now.shape boot_prom setup.image setup.disk.items setup.script)) }
     ensures stopped { IfErr result (λ status. status ≡ Status.Memory) }
 {
     let bench = start_bench(alloc, plan, setup)?;
@@ -151,9 +154,11 @@ fn run_setup<'a>(
 ) -> Result<Product<'a>, Status>
     requires { length setup.disk.items ≤ disk_limit }
     ensures made { IfOk result (λ product. run_job plan.now.telling plan.now.shape plan.now.steps (out_shown out)
-        setup.image setup.script setup.disk.items ≡ Makes (made_shown product)) }
+        (reset_of plan.now.shape boot_prom setup.image setup.disk.items setup.script) ≡ Makes (made_shown product)) }
     ensures flat { IfOk result (λ product. RunWillBeFlat product →
-        ToldFlat plan.now.telling plan.now.shape plan.now.steps setup.image setup.script setup.disk.items) }
+        ToldFlat plan.now.telling plan.now.shape plan.now.steps
+        (reset_of plan.now.shape boot_prom setup.image setup.disk.items setup.script)
+        (flat_reset_of plan.now.shape boot_prom setup.image setup.disk.items setup.script)) }
     ensures stopped { IfErr result (λ status. status ≡ Status.Memory) }
 {
     match plan.telling {
@@ -284,7 +289,7 @@ fn run_load<'a>(
     name: &'a str,
     image: ImageFile,
 ) -> Result<Product<'a>, Status>
-    ensures made { IfOk result (λ product. outcome.run_load words steps name.now image ≡ Makes (made_shown product)) }
+    ensures made { IfOk result (λ product. outcome.load_from_reset boot_prom words steps name.now image ≡ Makes (made_shown product)) }
     ensures stopped { IfErr result (λ status. status ≡ Status.Memory) }
 {
     let mut bench = load_bench(alloc, &image)?;
@@ -299,7 +304,8 @@ fn run_load<'a>(
 
 // Makes a load, and runs it.
 fn make_load<'a>(alloc: Global, load: &Load<'a>) -> Result<Product<'a>, Status>
-    ensures made { IfOk result (λ product. load_job load.now.number load.now.count load.now.out.now ≡ Makes (made_shown product)) }
+    ensures made { IfOk result (λ product.
+        load_job boot_prom load.now.number load.now.count load.now.out.now ≡ Makes (made_shown product)) }
     ensures stopped { IfErr result (λ status. status ≡ Status.Memory) }
 {
     let words = make_words(alloc, load.number, load.count)?;

@@ -12,5 +12,5 @@ mod verdicts;
 mod view;
 
 pub use reporting::{put_report, write_report};
-pub use verdicts::{put_end, put_event, put_events, put_verdict, write_verdict};
+pub use verdicts::{put_end, put_event, put_verdict, write_verdict};
 pub use view::View;

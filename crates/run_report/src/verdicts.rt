@@ -1,8 +1,8 @@
 //! The lines of a trace and of a verdict, written to a sink.
 
-ghost use Rattle.std.specs.Prelude.{◌≡◌, ◌≤◌, ◌++◌, [], ◌∷◌, ◌↔◌, true, length, All, IsNone, IfSome, OnOk, OnErr};
+ghost use Rattle.std.specs.Prelude.{◌≡◌, ◌≤◌, ◌++◌, [], ◌∷◌, ◌↔◌, true, length, IsNone, IfSome, OnOk, OnErr};
 ghost use Rattle.access_trace.specs.Grammar.{IsEvent};
-ghost use Rattle.access_trace.specs.Traces.{newline, end_line, events_text};
+ghost use Rattle.access_trace.specs.Traces.{newline, end_line};
 ghost use Rattle.r4_ports.specs.Told.{Appended, AppendedPrefix, HasCause};
 ghost use Rattle.r4_ports.specs.Writing.{Writes, stand};
 ghost use Rattle.run_report.specs.Verdict as law;
@@ -76,17 +76,6 @@ pub fn put_event<K: Sink>(event: &Event, out: &mut K, pending: &mut Pending)
         return;
     }
     put_across(event, out, pending);
-}
-
-/// Writes the lines of events of the grammar, unless a write failed before.
-pub fn put_events<K: Sink>(events: &[Event], out: &mut K, pending: &mut Pending)
-    requires { All IsEvent events.now }
-    ensures writes { Writes (stand K.written K.faults out.old pending.old)
-        (stand K.written K.faults out.new pending.new) (events_text events.now) }
-{
-    for event in events {
-        put_event(event, out, pending);
-    }
 }
 
 /// Writes the last line of a trace, unless a write failed before.

@@ -16,6 +16,6 @@ returns-clause-writes g c =
     writes_same _ _ _ _ c.put_tick_events.ensures.writes
     (ap events_text
     (ap (λ log. events_of c.ticks-ticks.result c.span-span.result log) c.log.ensures
-    ∙ ap (λ tick. events_of tick c.span-span.result c.advance-answer.new.self.machine.memory.log) c.ticks-ticks.ensures
-    ∙ ap (λ span. events_of c.args.bench.now.machine.cpu.ticks span c.advance-answer.new.self.machine.memory.log) c.span-span.ensures
-    ∙ running_events c.args.bench.now.machine.span_left (machine_in c.args.bench.now.machine) c.advance-answer.new.self.machine.memory.log runs (c.advance-answer.ensures.log runs)))
+    ∙ ap (λ tick. events_of tick c.span-span.result c.tick-answer.new.self.machine.memory.log) c.ticks-ticks.ensures
+    ∙ ap (λ span. events_of c.args.bench.now.machine.cpu.ticks span c.tick-answer.new.self.machine.memory.log) c.span-span.ensures
+    ∙ running_events c.args.bench.now.machine.span_left (machine_in c.args.bench.now.machine) c.tick-answer.new.self.machine.memory.log runs (c.tick-answer.ensures.log runs)))

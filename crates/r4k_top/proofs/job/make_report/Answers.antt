@@ -1,5 +1,7 @@
 -- The report comes of the files of the plan.
 use Rattle.std.proofs.Common.{◌∙◌, ap, sym}
+use Rattle.machine_core.specs.Machine.{reset_of}
+use Rattle.r4k_top.specs.BootProm.{boot_prom}
 use Rattle.r4k_top.specs.Command.{Run}
 use Rattle.r4k_top.specs.CommandShown.{plan_shown}
 use Rattle.r4k_top.specs.Outcome.{run_job}
@@ -20,9 +22,9 @@ returns-clause-made g c =
     (all_accepted (Run (plan_shown c.args.plan.now)) _ _ c.in_ok-setup.ensures.accepted
     (λ files told.
     setup_told _ _ _ _ _ c.in_ok-setup.ensures.setup files told
-    ∙ ap (λ out. run_job c.args.plan.now.telling c.args.plan.now.shape c.args.plan.now.steps out c.in_ok-setup.setup.image c.in_ok-setup.setup.script c.in_ok-setup.setup.disk.items) (sym c.in_ok-out.ensures.name)
+    ∙ ap (λ out. run_job c.args.plan.now.telling c.args.plan.now.shape c.args.plan.now.steps out (reset_of c.args.plan.now.shape boot_prom c.in_ok-setup.setup.image c.in_ok-setup.setup.disk.items c.in_ok-setup.setup.script)) (sym c.in_ok-out.ensures.name)
     ∙ made))
-    (disk_alone _ _ _ _ _ _ _ _ made ∙ c.in_ok-out.ensures.name) c.in_ok-setup.ensures.asked)
+    (disk_alone _ _ _ _ _ _ made ∙ c.in_ok-out.ensures.name) c.in_ok-setup.ensures.asked)
     c.run_setup.ensures.made
 
 pub returns-clause-stopped : goal.returns-clause-stopped
