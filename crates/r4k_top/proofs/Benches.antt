@@ -12,7 +12,7 @@ use Rattle.trace_check.specs.declared.found.Found.{Found}
 use Rattle.trace_check.specs.Verdicts.{Standing, standing_of}
 use Rattle.flat_bridge.specs.Benches.{BenchState, Begins, HasRun, events_in, standing_after}
 use Rattle.flat_bridge.proofs.BenchRuns.{events_of_reset, first_of_reset, machine_run_from_reset}
-use Rattle.r4k_top.specs.BootProm.{boot_prom}
+use Rattle.prom_code.specs.PromWords.{boot_prom}
 use Rattle.r4k_top.specs.declared.telling.Telling.TheVariants as telling
 use Rattle.r4k_top.specs.Outcome.{Makes, checked, run_job}
 use Rattle.r4k_top.specs.EndShown.{traced_shown}
