@@ -20,7 +20,7 @@ use Rattle.r4_shape.specs.Numbers.{Numbers}
 use Rattle.trace_check.specs.Books.{Book}
 use Rattle.trace_check.specs.declared.found.Found.{Found}
 use Rattle.trace_check.specs.Verdicts.{book_of, standing_of, verdict_by}
-use Rattle.r4k_top.specs.BootProm.{boot_prom}
+use Rattle.prom_code.specs.PromWords.{boot_prom}
 use Rattle.r4k_top.specs.Command.{Plan, Command, Run}
 use Rattle.r4k_top.specs.FlatRuns.{IsFlatWhereYes, ToldFlat, PlanIsFlat, YesIsFlat}
 use Rattle.r4k_top.specs.Making.{IsSetup}

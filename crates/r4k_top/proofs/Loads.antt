@@ -10,7 +10,7 @@ use Rattle.trace_check.specs.declared.found.Found.{Found}
 use Rattle.trace_check.specs.Verdicts.{Standing, standing_of}
 use Rattle.flat_bridge.specs.Benches.{BenchState, Begins, HasRun, events_in}
 use Rattle.flat_bridge.proofs.BenchRuns.{events_of_reset, first_of_reset, machine_run_from_reset}
-use Rattle.r4k_top.specs.BootProm.{boot_prom}
+use Rattle.prom_code.specs.PromWords.{boot_prom}
 use Rattle.r4k_top.specs.Command.{Make}
 use Rattle.r4k_top.specs.Making.{MadeOf}
 use Rattle.r4k_top.specs.Outcome.{Made, Makes, file_name, load_shape, summed_up, run_load, load_job}

@@ -16,7 +16,7 @@ use Rattle.machine_core.specs.Shown.{shown_of}
 use Rattle.r4_ports.specs.Told.{Files, file_of}
 use Rattle.r4_shape.specs.Numbers.{Numbers}
 use Rattle.trace_check.specs.Verdicts.{verdict_of}
-use Rattle.r4k_top.specs.BootProm.{boot_prom}
+use Rattle.prom_code.specs.PromWords.{boot_prom}
 use Rattle.r4k_top.specs.declared.telling.Telling.{Telling}
 use Rattle.r4k_top.specs.declared.telling.Telling.TheVariants as telling
 use Rattle.r4k_top.specs.Command.{Plan, Command, Run}

@@ -1,6 +1,5 @@
 pub mod Command
 pub mod CommandShown
-pub mod BootProm
 pub mod Wanted
 pub mod Outcome
 pub mod EndShown

@@ -24,7 +24,7 @@ use Rattle.input_script.specs.declared.inputs.Input.{Input}
 use Rattle.input_script.specs.Grammar as script
 use Rattle.run_report.specs.Report.{report_of}
 use Rattle.r4_ports.specs.Told.{Call, fetch_of}
-use Rattle.r4k_top.specs.BootProm.{boot_prom}
+use Rattle.prom_code.specs.PromWords.{boot_prom}
 use Rattle.r4k_top.specs.declared.telling.Telling.{Telling}
 use Rattle.r4k_top.specs.declared.telling.Telling.TheVariants as telling
 use Rattle.r4k_top.specs.Command.{Plan, Command, Run, Judge, Assemble, Disassemble, Make, disk_out}

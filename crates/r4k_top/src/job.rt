@@ -9,7 +9,7 @@ ghost use Rattle.machine_core.specs.Traced.{machine_in};
 ghost use Rattle.trace_check.specs.Verdicts.{book_of};
 ghost use Rattle.flat_bridge.specs.Beside.{StandsBeside};
 ghost use Rattle.flat_bridge.specs.Benches.{Begins};
-ghost use Rattle.r4k_top.specs.BootProm.{boot_prom};
+ghost use Rattle.prom_code.specs.PromWords.{boot_prom};
 ghost use Rattle.r4k_top.specs.Command as law;
 ghost use Rattle.r4k_top.specs.CommandShown.{name_shown, plan_shown, command_shown};
 ghost use Rattle.r4k_top.specs.Wanted.{disk_limit, wanted_by};
@@ -26,7 +26,6 @@ use crate::files::{
 };
 use crate::plan::{Inquiry, Load, Plan};
 use crate::product::{Finished, Product};
-use crate::prom_words::boot_prom;
 use crate::statuses::Status;
 use crate::telling::Telling;
 use crate::traced_run::TracedRun;
@@ -35,6 +34,7 @@ use flat_bridge::Bench;
 use input_script::Script;
 use load_maker::make_words;
 use machine_core::Machine;
+use prom_code::prom;
 use r4_ports::Shelf;
 use r4_shape::Shape;
 use std::alloc::Global;
@@ -79,7 +79,7 @@ fn report_run<'a>(
         script,
         disk,
     } = setup;
-    let prom = boot_prom();
+    let prom = prom();
     let mut machine = Machine::new(alloc, plan.shape, &prom, &image.image(), disk, script)?;
     let _ = machine.run(plan.steps);
     Ok(Product::Finished(Finished::Report { machine, out }))
@@ -99,7 +99,7 @@ fn start_bench(alloc: Global, plan: &Plan<'_>, setup: Setup) -> Result<Bench, St
         script,
         disk,
     } = setup;
-    let prom = boot_prom();
+    let prom = prom();
     Ok(Bench::new(alloc, plan.shape, &prom, &image.image(), disk, script)?)
 }
 
@@ -275,7 +275,7 @@ fn load_bench(alloc: Global, image: &ImageFile) -> Result<Bench, Status>
     ensures stopped { IfErr result (λ status. status ≡ Status.Memory) }
 {
     let shape = Shape::primary_alone(8192, 32);
-    let prom = boot_prom();
+    let prom = prom();
     let script = Script::empty(alloc);
     Ok(Bench::new(alloc, shape, &prom, &image.image(), Vec::new(alloc), script)?)
 }

@@ -1,10 +1,9 @@
 //! The top call: what the words of a command line say is done over a shelf of files and a sink.
 //!
 //! Reading order: `plan` is what a run is made by; `commands` reads the words; `files` has a reader for each kind of file;
-//! `prom_words` has the PROM's words; `job` makes what a command asks for; `product` is what is made, and its way out;
-//! `statuses` says how the program ended, in numbers and lines. `workstation` is the call; its clauses say when each answer comes
-//! and what stands after it, by the definitions of `specs/Command.antt`, `specs/Wanted.antt`, `specs/Outcome.antt` and, for what a yes
-//! promises, `specs/FlatRuns.antt`.
+//! `job` makes what a command asks for; `product` is what is made, and its way out; `statuses` says how the program ended, in
+//! numbers and lines. `workstation` is the call; its clauses say when each answer comes and what stands after it, by the
+//! definitions of `specs/Command.antt`, `specs/Wanted.antt`, `specs/Outcome.antt` and, for what a yes promises, `specs/FlatRuns.antt`.
 #![tactic(auto)]
 
 ghost use Rattle.std.specs.Prelude.{◌≡◌, ◌⊎◌, true, IsNone, ◌↔◌};
@@ -21,7 +20,6 @@ pub mod files;
 pub mod job;
 pub mod plan;
 pub mod product;
-pub mod prom_words;
 pub mod statuses;
 pub mod sure_ports;
 pub mod telling;
@@ -35,7 +33,6 @@ pub use access_trace::Breach;
 pub use elf_image::ImageRule;
 pub use input_script::ScriptWhy;
 pub use mips_text::AsmWhy;
-pub use prom_words::boot_prom;
 use r4_ports::{Shelf, Sink};
 pub use statuses::{Status, report_status, status_number, write_status};
 use std::alloc::Global;
