@@ -8,7 +8,7 @@ use Rattle.input_script.specs.Grammar.{Inputs, script_text}
 use Rattle.r4_shape.specs.Numbers.{Numbers}
 use Rattle.access_trace.specs.declared.event.Event.{Event}
 use Rattle.machine_core.specs.Machine.{MachineState, reset_of}
-use Rattle.r4k_top.specs.BootProm.{boot_prom}
+use Rattle.prom_code.specs.PromWords.{boot_prom}
 use Rattle.r4k_top.specs.declared.telling.Telling.{Telling}
 use Rattle.r4k_top.specs.declared.telling.Telling.TheVariants as telling
 use Rattle.machine_core.specs.Shown.{shown_of}

@@ -1,7 +1,7 @@
 -- The report comes of the files of the plan.
 use Rattle.std.proofs.Common.{◌∙◌, ap, sym}
 use Rattle.machine_core.specs.Machine.{reset_of}
-use Rattle.r4k_top.specs.BootProm.{boot_prom}
+use Rattle.prom_code.specs.PromWords.{boot_prom}
 use Rattle.r4k_top.specs.Command.{Run}
 use Rattle.r4k_top.specs.CommandShown.{plan_shown}
 use Rattle.r4k_top.specs.Outcome.{run_job}
