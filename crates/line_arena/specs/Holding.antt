@@ -12,21 +12,29 @@ pub record Holding : Type 0 where
   pub bytes : List (Option (List ℕ))
   pub owns : List Bool
 
+-- the slot of a holder in the list of all, and its owner's mark
+abbrev pub slot_in : List (Option ℕ) → ℕ → Option ℕ
+slot_in slots holder = slice_index_or slots holder None
+
+abbrev pub owner_in : List Bool → ℕ → Bool
+owner_in owns holder = slice_index_or owns holder false
+
 abbrev pub slot_of : Holding → ℕ → Option ℕ
-slot_of a holder = slice_index_or a.slots holder None
+slot_of a holder = slot_in a.slots holder
 
 abbrev pub bytes_of : Holding → ℕ → Option (List ℕ)
 bytes_of a holder = slice_index_or a.bytes holder None
 
 abbrev pub is_owner : Holding → ℕ → Bool
-is_owner a holder = slice_index_or a.owns holder false
+is_owner a holder = owner_in a.owns holder
 
 -- Each slot that a holder has is owned by one of its holders, and by one alone. Whoever owns a slot has it.
 pub record IsOwned (slots : List (Option ℕ)) (owns : List Bool) : Type 0 where
   pub length_is : length owns ≡ length slots
-  pub owned : (holder slot : ℕ) → slice_index_or slots holder None ≡ Some slot → (owner : ℕ) × (slice_index_or slots owner None ≡ Some slot) × (slice_index_or owns owner false ≡ true)
-  pub one : (holder other slot : ℕ) → slice_index_or slots holder None ≡ Some slot → slice_index_or slots other None ≡ Some slot → slice_index_or owns holder false ≡ true → slice_index_or owns other false ≡ true → holder ≡ other
-  pub holds : (holder : ℕ) → slice_index_or owns holder false ≡ true → IsSome (slice_index_or slots holder None)
+  pub owned : (holder slot : ℕ) → slot_in slots holder ≡ Some slot → (owner : ℕ) × (slot_in slots owner ≡ Some slot) × (owner_in owns owner ≡ true)
+  pub one : (holder other slot : ℕ) → slot_in slots holder ≡ Some slot → slot_in slots other ≡ Some slot →
+      owner_in owns holder ≡ true → owner_in owns other ≡ true → holder ≡ other
+  pub holds : (holder : ℕ) → owner_in owns holder ≡ true → IsSome (slot_in slots holder)
 
 -- What is so of all holders: who has a slot reads bytes there, as many as a line has; those of one slot read the same bytes; and each
 -- slot has one owner.

@@ -1,10 +1,10 @@
 -- How the arena keeps what stands with each holder: the bytes of the slots in a slab, whose keys are the slots' numbers, and for each slot
 -- the count of its holders.
 -- Source: this project's own.
-use Rattle.std.specs.Prelude.{◌≡◌, ℕ, ◌^◌, ◌<◌, ◌≤◌, Bool, List, length, map, take, count_by, Option, Some, None, IsSome, slice_index, slice_index_or}
+use Rattle.std.specs.Prelude.{◌≡◌, ℕ, ◌^◌, ◌<◌, ◌≤◌, Bool, List, length, map, take, count_by, Option, Some, None, IsSome, slice_index}
 use Rattle.std.specs.Option.{option_map}
 use Rattle.slab.specs.Slab.{Slab, get, slab_len}
-use Rattle.line_arena.specs.Holding.{Holding, IsOwned, is_slot}
+use Rattle.line_arena.specs.Holding.{Holding, IsOwned, is_slot, slot_in}
 
 -- the bytes of a line, the slots' bytes, the slot of each holder, the number of holders of each slot, and who owns its slot
 pub record Parts : Type 0 where
@@ -13,6 +13,9 @@ pub record Parts : Type 0 where
   pub held : List (Option ℕ)
   pub counts : List ℕ
   pub owns : List Bool
+
+abbrev pub parts : ℕ → Slab (List ℕ) → List (Option ℕ) → List ℕ → List Bool → Parts
+parts line store held counts owns = record { line = line; store = store; held = held; counts = counts; owns = owns }
 
 -- what a line reads in a slot: a slot has room for the longest line
 abbrev pub bytes_in : ℕ → Slab (List ℕ) → Option ℕ → Option (List ℕ)
@@ -35,8 +38,8 @@ pub record IsKept (p : Parts) : Type 0 where
   pub owners : IsOwned p.held p.owns
   pub room : length p.held ≤ p.store.capacity
   pub in_use : slab_len p.store ≡ count_by (λ own. own) p.owns
-  pub within : (holder slot : ℕ) → slice_index_or p.held holder None ≡ Some slot → slot < p.store.capacity
-  pub stored : (holder slot : ℕ) → slice_index_or p.held holder None ≡ Some slot → IsSome (get p.store slot)
+  pub within : (holder slot : ℕ) → slot_in p.held holder ≡ Some slot → slot < p.store.capacity
+  pub stored : (holder slot : ℕ) → slot_in p.held holder ≡ Some slot → IsSome (get p.store slot)
   pub sized : (slot : ℕ) (bytes : List ℕ) → get p.store slot ≡ Some bytes → length bytes ≡ 32
   pub counts_length : length p.counts ≡ p.store.capacity
   pub counted : (slot : ℕ) → slot < p.store.capacity → slice_index p.counts slot ≡ holders_of slot p.held

@@ -26,13 +26,13 @@ pub struct Arena {
 
 impl Model for Arena {
     ghost use Rattle.line_arena.specs.Holding.{Holding};
-    ghost use Rattle.line_arena.specs.Parts.{IsKept, holding};
+    ghost use Rattle.line_arena.specs.Parts.{IsKept, holding, parts};
 
     ghost Value = { Holding };
 
-    ghost view = { λ a. holding (record { line = a.line; store = a.store; held = a.held.items; counts = a.counts.items; owns = a.owns.items }) };
+    ghost view = { λ a. holding (parts a.line a.store a.held.items a.counts.items a.owns.items) };
 
-    ghost invariant = { λ a. IsKept (record { line = a.line; store = a.store; held = a.held.items; counts = a.counts.items; owns = a.owns.items }) };
+    ghost invariant = { λ a. IsKept (parts a.line a.store a.held.items a.counts.items a.owns.items) };
 }
 
 fn no_slots(alloc: Global, holders: usize) -> Result<Vec<Option<usize>>, AllocError>
