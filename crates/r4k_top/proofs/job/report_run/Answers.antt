@@ -5,5 +5,5 @@ use Rattle.r4k_top.proofs.job.report_run.Goals as goal
 
 pub returns-clause-made : goal.returns-clause-made
 returns-clause-made c =
-    report_made c.args.plan.now.shape c.args.plan.now.steps (out_shown c.args.out) _ (machine_in c.in_ok-machine.machine) (machine_in c.run.new.machine)
+    report_made c.args.plan.now.shape c.args.plan.now.steps (out_shown c.args.out) _ (machine_in c.in_ok-machine.machine) (machine_in c.run.new.self)
     c.in_ok-machine.ensures.reset c.run.ensures.machine
