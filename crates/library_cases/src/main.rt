@@ -7,12 +7,13 @@
 //!
 //! `arguments` reads the parts of a case, `scene` is what lasts from a case to the next, and `operation_names` has the names
 //! of operations. Each other module has the verbs of one library, and its `put_answer` hands a verb that is none of them on
-//! to the next one's, from `words` to `sources`.
+//! to the next one's, from `words` to `lines`.
 #![tactic(auto)]
 
 mod arguments;
 mod coding;
 mod images;
+mod lines;
 mod listings;
 mod memory;
 mod operation_names;

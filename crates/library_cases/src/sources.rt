@@ -1,11 +1,12 @@
 //! Whole sources: the verbs of mips_asm. A source is a text in quotes.
 
 use crate::arguments::{put_bytes, quoted, text_of};
+use crate::lines;
 use crate::tokens::why_name;
 use mips_asm::{AsmFault, Built, assemble};
 use std::alloc::{AllocError, Global};
 
-/// Appends the answer of a verb, a question mark where there is no such verb.
+/// Appends the answer of a verb.
 pub fn put_answer(
     alloc: Global,
     verb: &str,
@@ -15,7 +16,7 @@ pub fn put_answer(
     match verb {
         "assemble" => put_assembled(alloc, arguments, out),
         "assembled_size" => put_size(alloc, arguments, out),
-        _ => out.push_str("?"),
+        _ => lines::put_answer(alloc, verb, arguments, out),
     }
 }
 
