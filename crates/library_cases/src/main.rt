@@ -13,6 +13,7 @@
 mod arguments;
 mod coding;
 mod images;
+mod lines;
 mod listings;
 mod memory;
 mod operation_names;

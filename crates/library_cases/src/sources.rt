@@ -1,7 +1,7 @@
 //! Whole sources: the verbs of mips_asm. A source is a text in quotes.
 
 use crate::arguments::{put_bytes, quoted, text_of};
-use crate::proms;
+use crate::lines;
 use crate::tokens::why_name;
 use mips_asm::{AsmFault, Built, assemble};
 use std::alloc::{AllocError, Global};
@@ -16,7 +16,7 @@ pub fn put_answer(
     match verb {
         "assemble" => put_assembled(alloc, arguments, out),
         "assembled_size" => put_size(alloc, arguments, out),
-        _ => proms::put_answer(alloc, verb, out),
+        _ => lines::put_answer(alloc, verb, arguments, out),
     }
 }
 
