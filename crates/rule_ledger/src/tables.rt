@@ -62,6 +62,7 @@ impl Tables {
         ensures facts { IfOk result (λ tables. facts_of tables ≡ no_facts) }
         ensures steps { IfOk result (λ tables. tables.steps ≡ 0) }
     {
+        // What each shape keeps is known of one that was asked.
         let _is_one = shape.sc();
         let lines = shape.places() as usize;
         let cells = (shape.lines_in(RAM_SIZE) * shape.colours()) as usize;
