@@ -1,3 +1,3 @@
-pub mod Fields
+pub mod Powers
 pub mod Cut
 pub mod Lookup

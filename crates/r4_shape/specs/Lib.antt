@@ -1,4 +1,5 @@
 pub mod Numbers
+pub mod Powers
 pub mod Names
 pub mod Address
 pub mod Config

@@ -12,10 +12,6 @@ pub record Numbers : Type 0 where
   pub group : ℕ
   pub size : ℕ
 
--- the numbers of a shape by themselves, in the order above
-abbrev pub numbers_of : Bool → ℕ → ℕ → ℕ → ℕ → Numbers
-numbers_of sc prim line group size = record { sc = sc; prim = prim; line = line; group = group; size = size }
-
 -- primary caches of `prim` bytes alone, in lines of `line` bytes
 abbrev pub primary_alone : ℕ → ℕ → Numbers
 primary_alone prim line = record { sc = false; prim = prim; line = line; group = 0; size = 0 }
@@ -34,6 +30,10 @@ secondary_places shape = shape.size / shape.group
 -- the colours: how many pages a primary cache has
 abbrev pub colours : Numbers → ℕ
 colours shape = shape.prim / 4096
+
+-- the primary lines of a page
+abbrev pub page_lines : Numbers → ℕ
+page_lines shape = 4096 / shape.line
 
 -- the lengths of lines, in a primary cache and in the secondary cache
 abbrev pub IsLine : ℕ → Type 0

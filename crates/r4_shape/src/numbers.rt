@@ -1,63 +1,68 @@
 //! A shape, and the parts of an address on it.
 
-ghost use Rattle.std.specs.Prelude.{◌≡◌, ◌<◌, ◌≤◌, ◌*◌, ◌/◌, ◌%◌, true};
+ghost use Rattle.std.specs.Prelude.{◌≡◌, ◌<◌, ◌≤◌, ◌+◌, ◌*◌, ◌/◌, ◌%◌, ◌^◌, true};
 ghost use Rattle.r4_shape.specs.Address as address;
 ghost use Rattle.r4_shape.specs.Config.{block_field, config_of, size_field};
-ghost use Rattle.r4_shape.specs.Numbers.{HasPages, IsGroup, IsLine, IsPrim, IsShape, IsSize, colours, places, primary_alone, secondary_places, with_secondary};
+ghost use Rattle.r4_shape.specs.Powers.{logarithm};
+ghost use Rattle.r4_shape.specs.Numbers.{HasPages, IsGroup, IsLine, IsPrim, IsShape, IsSize, colours, page_lines, places, primary_alone, secondary_places, with_secondary};
 
 use std::marker::Model;
 
-/// The bytes of a page, and of each primary cache.
-const PAGE: u32 = 4096;
+/// The logarithm of the bytes of a page.
+const PAGE_BITS: u32 = 12;
 
-const PRIM: u32 = 8192;
-
-/// A shape of the caches: one of those that have a name.
+/// A shape of the caches: one of those that have a name. It keeps the logarithms of its numbers, so that an address is cut by
+/// shifts and masks.
 #[derive(Clone, Copy)]
 pub struct Shape {
     sc: bool,
-    prim: u32,
-    line: u32,
-    group: u32,
-    size: u32,
+    prim_bits: u32,
+    line_bits: u32,
+    group_bits: u32,
+    size_bits: u32,
 }
 
 impl Model for Shape {
-    ghost use Rattle.r4_shape.specs.Numbers.{IsShape, Numbers, numbers_of};
+    ghost use Rattle.r4_shape.specs.Numbers.{Numbers};
+    ghost use Rattle.r4_shape.specs.Powers.{ArePowers, logarithm, numbers_of, secondary_logarithm};
 
     ghost Value = { Numbers };
 
-    ghost view = { λ shape. numbers_of shape.sc shape.prim shape.line shape.group shape.size };
+    ghost view = { λ shape. numbers_of shape.sc shape.prim_bits shape.line_bits shape.group_bits shape.size_bits };
 
-    ghost invariant = { λ shape. IsShape (numbers_of shape.sc shape.prim shape.line shape.group shape.size) };
+    ghost invariant = { λ shape. ArePowers shape.sc shape.prim_bits shape.line_bits shape.group_bits shape.size_bits };
 
-    ghost inverse = { λ shape. record { sc = shape.sc; prim = shape.prim; line = shape.line; group = shape.group; size = shape.size } };
+    ghost inverse = { λ shape. record {
+      sc = shape.sc;
+      prim_bits = logarithm shape.prim;
+      line_bits = logarithm shape.line;
+      group_bits = secondary_logarithm shape.sc shape.group;
+      size_bits = secondary_logarithm shape.sc shape.size;
+    } };
+
+    ghost inverse_ok = { λ a is i. record {
+      sc = a.sc;
+      prim_bits = is.prim_back i;
+      line_bits = is.line_back i;
+      group_bits = is.group_back i;
+      size_bits = is.size_back i;
+    } };
 }
 
-// What Config shows of a line of so many bytes.
-#[tactic(auto, using(crate::proofs::Fields::longest))]
-fn block_field(bytes: u32) -> u32
-    requires length { IsGroup bytes }
-    ensures field { result ≡ block_field bytes }
+// The logarithm of a power of two.
+fn bits_of(number: u32) -> u32
+    ensures is { result ≡ logarithm number }
 {
-    match bytes {
-        16 => 0,
-        32 => 1,
-        64 => 2,
-        _ => 3,
-    }
+    number.trailing_zeros()
 }
 
-// What Config shows of a primary cache of so many bytes.
-fn size_field(bytes: u32) -> u32
-    requires size { IsPrim bytes }
-    ensures field { result ≡ size_field bytes }
+// What Config shows of a line of so many bytes, by their logarithm.
+fn block_field(bits: u32) -> u32
+    requires least { 4 ≤ bits }
+    requires most { bits ≤ 7 }
+    ensures field { result ≡ block_field (2 ^ bits) }
 {
-    match bytes {
-        4096 => 0,
-        8192 => 1,
-        _ => 2,
-    }
+    bits - 4
 }
 
 impl Shape {
@@ -69,10 +74,10 @@ impl Shape {
     {
         Shape {
             sc: false,
-            prim,
-            line,
-            group: 0,
-            size: 0,
+            prim_bits: bits_of(prim),
+            line_bits: bits_of(line),
+            group_bits: 0,
+            size_bits: 0,
         }
     }
 
@@ -87,14 +92,15 @@ impl Shape {
     {
         Shape {
             sc: true,
-            prim,
-            line,
-            group,
-            size,
+            prim_bits: bits_of(prim),
+            line_bits: bits_of(line),
+            group_bits: bits_of(group),
+            size_bits: bits_of(size),
         }
     }
 
     /// Whether there is a secondary cache.
+    #[inline]
     pub fn sc(&self) -> bool
         ensures is { result ≡ self.now.sc }
         ensures shape { IsShape self.now }
@@ -103,58 +109,75 @@ impl Shape {
     }
 
     /// The bytes of each primary cache.
+    #[inline]
     pub fn prim(&self) -> u32
         ensures is { result ≡ self.now.prim }
         ensures shape { IsShape self.now }
         ensures pages { HasPages self.now }
     {
-        self.prim
+        1 << self.prim_bits
     }
 
     /// The bytes of a line of the primary caches.
+    #[inline]
     pub fn line(&self) -> u32
         ensures is { result ≡ self.now.line }
         ensures shape { IsShape self.now }
     {
-        self.line
+        1 << self.line_bits
     }
 
     /// The bytes of a line of the secondary cache, 0 where there is none.
+    #[inline]
     pub fn group(&self) -> u32
         ensures is { result ≡ self.now.group }
         ensures shape { IsShape self.now }
     {
-        self.group
+        if self.sc { 1 << self.group_bits } else { 0 }
     }
 
     /// The bytes of the secondary cache, 0 where there is none.
+    #[inline]
     pub fn size(&self) -> u32
         ensures is { result ≡ self.now.size }
         ensures shape { IsShape self.now }
     {
-        self.size
+        if self.sc { 1 << self.size_bits } else { 0 }
     }
 
-    // Where a virtual address lies in a primary cache. Here and below a divisor is a number that is known when the program is
-    // built, so that a mask or a shift stands for the division.
+    /// The lines of each primary cache.
+    #[inline]
+    pub fn places(&self) -> u32
+        ensures is { result ≡ places self.now }
+    {
+        1 << (self.prim_bits - self.line_bits)
+    }
+
+    /// The colours: how many pages a primary cache has.
+    #[inline]
+    pub fn colours(&self) -> u32
+        ensures is { result ≡ colours self.now }
+    {
+        1 << (self.prim_bits - PAGE_BITS)
+    }
+
+    /// The logarithm of the granules of a page.
+    #[inline]
+    pub fn page_bits(&self) -> u32
+        ensures is { 2 ^ result ≡ page_lines self.now }
+        ensures most { result ≤ 8 }
+    {
+        PAGE_BITS - self.line_bits
+    }
+
+    // Where a virtual address lies in a primary cache.
     #[inline]
     fn within(&self, va: u32) -> u32
         ensures is { result ≡ va % self.now.prim }
-        ensures shape { IsShape self.now }
+        ensures inside { result < self.now.prim }
+        ensures prim { self.now.prim ≡ 8192 }
     {
-        if self.prim == PRIM {
-            va % PRIM
-        } else {
-            va % self.prim
-        }
-    }
-
-    // How many lines of a primary cache end at an address or before it.
-    #[inline]
-    fn lines_before(&self, at: u32) -> u32
-        ensures is { result ≡ at / self.now.line }
-    {
-        if self.line == 16 { at / 16 } else { at / 32 }
+        va & ((1 << self.prim_bits) - 1)
     }
 
     /// The index of a virtual address in the primary caches.
@@ -163,7 +186,7 @@ impl Shape {
         ensures is { result ≡ address.index self.now va }
         ensures place { result < places self.now }
     {
-        self.lines_before(self.within(va))
+        self.within(va) >> self.line_bits
     }
 
     /// The place of an address in its line of a primary cache.
@@ -171,16 +194,16 @@ impl Shape {
     pub fn offset(&self, pa: u64) -> u32
         ensures is { result ≡ pa % self.now.line }
     {
-        let at = if self.line == 16 { pa % 16 } else { pa % 32 };
-        at as u32
+        (pa & ((1 << self.line_bits) - 1)) as u32
     }
 
     /// The colour of a virtual address.
+    #[inline]
     pub fn colour(&self, va: u32) -> u32
         ensures is { result ≡ address.colour self.now va }
         ensures few { result < colours self.now }
     {
-        self.within(va) / PAGE
+        self.within(va) >> PAGE_BITS
     }
 
     /// The bits of a virtual address that the secondary cache keeps of a line.
@@ -188,15 +211,50 @@ impl Shape {
         ensures is { result ≡ address.pidx va }
         ensures few { result < 8 }
     {
-        (va / PAGE % 8) as u8
+        (va >> PAGE_BITS & 7) as u8
     }
 
     /// The number of the primary line of an address in RAM.
+    #[inline]
     pub fn granule(&self, pa: u64) -> u32
         requires ram { pa < 8388608 }
         ensures is { result ≡ address.granule self.now pa }
+        ensures inside { result < 8388608 / self.now.line }
     {
-        self.lines_before(pa as u32)
+        (pa >> self.line_bits) as u32
+    }
+
+    /// How many primary lines so many bytes have, which are whole lines.
+    #[inline]
+    pub fn lines_in(&self, bytes: u32) -> u32
+        ensures is { result ≡ bytes / self.now.line }
+    {
+        bytes >> self.line_bits
+    }
+
+    /// The number of a copy in a primary cache, of a granule at a colour, among all that there can be: the copies of a page together
+    /// are as many as a cache has lines.
+    #[inline]
+    pub fn copy_of(&self, granule: u32, colour: u32) -> u32
+        requires granule { granule < 8388608 / self.now.line }
+        requires colour { colour < colours self.now }
+        ensures is { result ≡ address.copy_of self.now granule colour }
+    {
+        let page_bits = PAGE_BITS - self.line_bits;
+        let page = granule >> page_bits;
+        let within = granule & ((1 << page_bits) - 1);
+        (page << (self.prim_bits - self.line_bits)) + ((colour << page_bits) + within)
+    }
+
+    /// The number of the copy that an access means. Its addresses have one place in their pages.
+    #[inline]
+    pub fn accessed_copy(&self, pa: u64, va: u32) -> u32
+        requires ram { pa < 8388608 }
+        requires page { pa % 4096 ≡ va % 4096 }
+        ensures is { result ≡ address.copy_of self.now (address.granule self.now pa) (address.colour self.now va) }
+    {
+        let page = (pa >> PAGE_BITS) as u32;
+        (page << (self.prim_bits - self.line_bits)) + self.index(va)
     }
 
     /// The first address of the primary line of an address.
@@ -204,52 +262,17 @@ impl Shape {
     pub fn line_start(&self, pa: u64) -> u64
         ensures is { result ≡ pa / self.now.line * self.now.line }
     {
-        if self.line == 16 {
-            pa / 16 * 16
-        } else {
-            pa / 32 * 32
-        }
-    }
-
-    // How many lines of the secondary cache end at an address or before it.
-    #[inline]
-    #[tactic(auto, using(crate::proofs::Fields::longest))]
-    fn groups_before(&self, at: u64) -> u64
-        requires secondary { self.now.sc ≡ true }
-        ensures is { result ≡ at / self.now.group }
-        ensures lengths { IsGroup self.now.group }
-    {
-        match self.group {
-            16 => at / 16,
-            32 => at / 32,
-            64 => at / 64,
-            _ => at / 128,
-        }
-    }
-
-    // Where a physical address lies in the secondary cache.
-    #[inline]
-    #[tactic(auto, using(crate::proofs::Fields::largest))]
-    fn within_secondary(&self, pa: u64) -> u64
-        requires secondary { self.now.sc ≡ true }
-        ensures is { result ≡ pa % self.now.size }
-        ensures sizes { IsSize self.now.size }
-    {
-        match self.size {
-            0x2_0000 => pa % 0x2_0000,
-            0x4_0000 => pa % 0x4_0000,
-            0x8_0000 => pa % 0x8_0000,
-            _ => pa % 0x10_0000,
-        }
+        pa >> self.line_bits << self.line_bits
     }
 
     /// The number of the secondary line of an address in RAM.
+    #[inline]
     pub fn group_of(&self, pa: u64) -> u32
         requires secondary { self.now.sc ≡ true }
         requires ram { pa < 8388608 }
         ensures is { result ≡ address.group_of self.now pa }
     {
-        self.groups_before(pa) as u32
+        (pa >> self.group_bits) as u32
     }
 
     /// The first address of the secondary line of an address.
@@ -258,30 +281,24 @@ impl Shape {
         requires secondary { self.now.sc ≡ true }
         ensures is { result ≡ pa / self.now.group * self.now.group }
     {
-        self.groups_before(pa) * u64::from(self.group)
+        pa >> self.group_bits << self.group_bits
     }
 
     /// The place of an address in its line of the secondary cache.
     #[inline]
-    #[tactic(auto, using(crate::proofs::Fields::longest))]
     pub fn group_offset(&self, pa: u64) -> u32
         requires secondary { self.now.sc ≡ true }
         ensures is { result ≡ pa % self.now.group }
     {
-        let at = match self.group {
-            16 => pa % 16,
-            32 => pa % 32,
-            64 => pa % 64,
-            _ => pa % 128,
-        };
-        at as u32
+        (pa & ((1 << self.group_bits) - 1)) as u32
     }
 
     /// How many primary lines lie in a line of the secondary cache, 0 where there is none.
+    #[inline]
     pub fn lines_in_group(&self) -> u32
         ensures is { result ≡ self.now.group / self.now.line }
     {
-        self.lines_before(self.group)
+        self.lines_in(self.group())
     }
 
     /// The place of a physical address in the secondary cache.
@@ -291,17 +308,18 @@ impl Shape {
         ensures is { result ≡ address.place self.now pa }
         ensures place { result < secondary_places self.now }
     {
-        self.groups_before(self.within_secondary(pa)) as u32
+        let within = pa & ((1 << self.size_bits) - 1);
+        (within >> self.group_bits) as u32
     }
 
     /// The register Config at reset.
     pub fn config(&self) -> u32
         ensures is { result ≡ config_of self.now }
     {
-        let block = block_field(self.line);
-        let size = size_field(self.prim);
+        let block = block_field(self.line_bits);
+        let size = self.prim_bits - PAGE_BITS;
         let secondary = if self.sc {
-            block_field(self.group) << 22
+            block_field(self.group_bits) << 22
         } else {
             1 << 17
         };

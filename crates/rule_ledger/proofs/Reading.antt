@@ -1,13 +1,13 @@
 -- What a ledger keeps where marks are read, set and cleared, and where a step is counted.
-use Rattle.std.proofs.Common.{◌≡◌, ℕ, ◌+◌, ◌*◌, ◌%◌, ◌<◌, ◌≤◌, Bool, false, cond, eqb, ltb, refl, sym, ap, ap₂, subst, ◌∙◌, arith, inl, inr}
+use Rattle.std.proofs.Common.{◌≡◌, ℕ, ◌+◌, ◌*◌, ◌%◌, ◌<◌, ◌≤◌, false, cond, eqb, ltb, refl, ap, ap₂, ◌∙◌, arith, inl, inr}
 use Rattle.std.proofs.lemmas.Bool.{cases_eq, eq-eqb, ne_eqb, le-ltb, and_right}
 use Rattle.ledger_table.specs.Table.{Table, mark_of, row_stamp}
 use Rattle.ledger_table.proofs.Stamps.{marks_kept, stamps_kept}
-use Rattle.r4_shape.specs.Numbers.{Numbers, IsShape}
+use Rattle.r4_shape.specs.Numbers.{Numbers}
 use Rattle.rule_ledger.specs.declared.marks.DataMark.{DataMark}
 use Rattle.rule_ledger.specs.declared.marks.InstructionMark.{InstructionMark}
 use Rattle.rule_ledger.specs.Facts.{Cells, Facts, at_index}
-use Rattle.rule_ledger.specs.Cells.{Grid, grid_of, meets}
+use Rattle.rule_ledger.specs.Cells.{grid_of, meets}
 use Rattle.rule_ledger.specs.Kept.{IsTableOf, IsCounted}
 use Rattle.rule_ledger.specs.Marks.{Ledger, facts_of, said_by, place_of}
 use Rattle.rule_ledger.specs.MarkFlags.{data_mark, instruction_mark, data_at, instruction_at, with_data, with_instruction, data_cleared, instructions_cleared}

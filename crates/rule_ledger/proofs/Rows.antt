@@ -14,11 +14,9 @@ use Rattle.access_trace.specs.declared.event.Breach.TheVariants.{Old, Owed, Lost
 use Rattle.rule_ledger.specs.declared.marks.DataMark.{DataMark}
 use Rattle.rule_ledger.specs.declared.marks.InstructionMark.{InstructionMark}
 use Rattle.rule_ledger.specs.Facts.{Cells, Facts, cell, granules, other_colours, both, either, without, put}
-use Rattle.rule_ledger.specs.Cells.{Grid, grid_of, meets}
-use Rattle.rule_ledger.specs.Marks.{Ledger, facts_of}
-use Rattle.rule_ledger.specs.Steps.{Follows}
+use Rattle.rule_ledger.specs.Cells.{Grid, meets}
 use Rattle.rule_ledger.specs.MarkFlags.{all_aged, with_data, with_instruction, data_at, instruction_at}
-use Rattle.rule_ledger.specs.Rules.{harmless, first_breach, next, cached_load, cached_store, cached_fetch, read_past, write_past, invalidate_i, writeback_invalidate_d, store_tag_d, hit_invalidate_d, fill_i, hit_writeback_d}
+use Rattle.rule_ledger.specs.Rules.{first_breach, next, cached_load, cached_store, cached_fetch, read_past, write_past, invalidate_i, writeback_invalidate_d, store_tag_d, hit_invalidate_d, fill_i, hit_writeback_d}
 use Rattle.rule_ledger.proofs.Meeting.{meets_nowhere}
 use Rattle.rule_ledger.proofs.Ageing.{put_same}
 

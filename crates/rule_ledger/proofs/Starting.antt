@@ -1,65 +1,14 @@
--- A ledger as it is made: its cells are placed as its shape wants, and there is no fact.
-use Rattle.std.proofs.Common.{◌&&◌, ◌≡◌, ℕ, ◌-◌, ◌*◌, ◌/◌, Bool, false, refl, ap, ◌∙◌, inl, inr, arith}
+-- A ledger as it is made: there is no fact.
+use Rattle.std.proofs.Common.{◌&&◌, ◌≡◌, ℕ, ◌*◌, Bool, false, refl, ap, ◌∙◌, arith}
 use Rattle.std.proofs.Math.Path.{fun_ext}
 use Rattle.std.proofs.lemmas.Bool.{and_right}
 use Rattle.ledger_table.specs.Table.{no_marks, mark_of}
 use Rattle.ledger_table.proofs.Stamps.{no_mark, no_stamp}
-use Rattle.r4_shape.specs.Numbers.{Numbers, IsShape}
+use Rattle.r4_shape.specs.Numbers.{Numbers}
 use Rattle.rule_ledger.specs.Facts.{nowhere, no_facts}
 use Rattle.rule_ledger.specs.Cells.{Grid, grid_of}
-use Rattle.rule_ledger.specs.Kept.{ArePlaced, IsTableOf, IsCounted}
+use Rattle.rule_ledger.specs.Kept.{IsTableOf, IsCounted}
 use Rattle.rule_ledger.specs.Marks.{place_of, is_inside, flagged, said_by, has_held, has_dirty, has_old, has_iheld, has_iold}
-
-pub placed_is : (shape : Numbers) (prim_bits line_bits : ℕ) → IsShape shape → (shape.line ≡ 16 → line_bits ≡ 4) → (shape.line ≡ 32 → line_bits ≡ 5) → (shape.prim ≡ 8192 → prim_bits ≡ 13)
-    → ArePlaced shape prim_bits line_bits (12 - line_bits) (shape.prim / 4096) (shape.prim / shape.line)
-placed_is shape prim_bits line_bits is narrow wide small = elim is.line [
-  | inl l ↦ (let b = narrow l in record {
-    prim = rw (c, p) refl;
-    prim_most = rw c (omega arith);
-    pages = rw p refl;
-    cache = rw (l, p) refl;
-    indexes = rw (l, p) refl;
-    ram = rw l refl;
-    line = rw (b, l) refl;
-    line_most = rw b (omega arith);
-    line_least = rw b (omega arith);
-    page = rw (b, l) refl;
-    page_most = rw b (omega arith);
-    colours = refl;
-    some = rw p (omega arith);
-    few = rw p (omega arith);
-    lines = rw (l, p) refl;
-    lines_most = rw (l, p) (omega arith);
-    whole = rw l refl;
-    whole_most = rw l (omega arith);
-  })
-  | inr l ↦ (let b = wide l in record {
-    prim = rw (c, p) refl;
-    prim_most = rw c (omega arith);
-    pages = rw p refl;
-    cache = rw (l, p) refl;
-    indexes = rw (l, p) refl;
-    ram = rw l refl;
-    line = rw (b, l) refl;
-    line_most = rw b (omega arith);
-    line_least = rw b (omega arith);
-    page = rw (b, l) refl;
-    page_most = rw b (omega arith);
-    colours = refl;
-    some = rw p (omega arith);
-    few = rw p (omega arith);
-    lines = rw (l, p) refl;
-    lines_most = rw (l, p) (omega arith);
-    whole = rw l refl;
-    whole_most = rw l (omega arith);
-  })
-]
-  where
-    p : shape.prim ≡ 8192
-    p = is.prim
-
-    c : prim_bits ≡ 13
-    c = small is.prim
 
 flagged_nowhere : (flag : ℕ → Bool) (grid : Grid) (cells rows : ℕ) → flag 0 ≡ false → flagged flag grid (mark_of (no_marks cells rows)) ≡ nowhere
 flagged_nowhere flag grid cells rows none =

@@ -1,5 +1,5 @@
 -- What a ledger keeps over a step, and over a reading.
-use Rattle.std.proofs.Common.{◌≡◌, Bool, true, Option, sym, ap, subst, ◌∙◌}
+use Rattle.std.proofs.Common.{◌≡◌, Bool, Option, sym, ap, subst, ◌∙◌}
 use Rattle.access_trace.specs.declared.event.Breach.{Breach}
 use Rattle.access_trace.specs.declared.event.Event.{Event}
 use Rattle.r4_shape.specs.Numbers.{Numbers, IsShape}

@@ -5,7 +5,6 @@
 //!
 //! - `operations`: the operations of the CACHE instruction, as far as the rules tell them apart.
 //! - `marks`: what a mark of a table says of a cell, which is a granule of RAM at a colour.
-//! - `places`: where a cell stands in a table.
 //! - `tables`: the marks of a ledger, their tests and their changes.
 //! - `rules`: the rows of the table of rules, a method each.
 //! - `settled`: where one mark tells that an event breaks no rule and changes no fact.
@@ -20,7 +19,6 @@
 mod ledger;
 mod marks;
 mod operations;
-mod places;
 mod rules;
 mod settled;
 mod steps;

@@ -12,29 +12,21 @@ ghost use Rattle.rule_ledger.specs.Steps.{Counts, IsLeft, Keeps, Reads};
 ghost use Rattle.ledger_table.specs.Table.{row_stamp};
 
 use crate::marks::{DataMark, InstructionMark};
-use crate::places::place_at;
 use ledger_table::Marks;
 use r4_shape::Shape;
 use r4_words::Memory;
 use std::alloc::Global;
 use std::marker::Model;
 
-/// The bytes of RAM and of a page, and the pages of RAM.
+/// The bytes of RAM, and its pages.
 const RAM_SIZE: u32 = 8388608;
 
-const PAGE: u32 = 4096;
+const PAGES: u32 = RAM_SIZE / 4096;
 
-const PAGES: u32 = RAM_SIZE / PAGE;
-
-/// The marks of a machine without a secondary cache, and the numbers by which its shape places them.
+/// The marks of a machine without a secondary cache: the number that its shape gives a copy is the place of the copy's mark.
 #[derive(Drop)]
 pub struct Tables {
     shape: Shape,
-    prim_bits: u32,
-    line_bits: u32,
-    page_bits: u32,
-    colours: u32,
-    lines: usize,
     data_marks: Marks,
     instruction_marks: Marks,
     steps: u64,
@@ -43,7 +35,7 @@ pub struct Tables {
 impl Model for Tables {
     ghost use Rattle.rule_ledger.specs.Marks.{Ledger};
     ghost use Rattle.r4_shape.specs.Numbers.{IsShape};
-    ghost use Rattle.rule_ledger.specs.Kept.{ArePlaced, IsCounted, IsTableOf};
+    ghost use Rattle.rule_ledger.specs.Kept.{IsCounted, IsTableOf};
 
     ghost Value = { Ledger };
 
@@ -54,29 +46,11 @@ impl Model for Tables {
       steps = p.steps;
     } };
 
-    ghost invariant = { λ p. ArePlaced p.shape p.prim_bits p.line_bits p.page_bits p.colours p.lines
+    ghost invariant = { λ p. IsShape p.shape
         × IsTableOf p.shape p.data_marks
         × IsTableOf p.shape p.instruction_marks
-        × IsShape p.shape
         × IsCounted p.steps p.data_marks
         × IsCounted p.steps p.instruction_marks };
-}
-
-// The logarithm of the bytes of a line.
-fn line_bits(line: u32) -> u32
-    ensures narrow { line ≡ 16 → result ≡ 4 }
-    ensures wide { line ≡ 32 → result ≡ 5 }
-    ensures most { result ≤ 5 }
-{
-    if line == 16 { 4 } else { 5 }
-}
-
-// The logarithm of the bytes of a primary cache.
-fn prim_bits(prim: u32) -> u32
-    ensures small { prim ≡ 8192 → result ≡ 13 }
-    ensures large { prim ≡ 16384 → result ≡ 14 }
-{
-    if prim == 8192 { 13 } else { 14 }
 }
 
 impl Tables {
@@ -88,19 +62,12 @@ impl Tables {
         ensures facts { IfOk result (λ tables. facts_of tables ≡ no_facts) }
         ensures steps { IfOk result (λ tables. tables.steps ≡ 0) }
     {
-        let line = shape.line();
-        let prim = shape.prim();
-        let line_bits = line_bits(line);
-        let colours = prim / PAGE;
-        let lines = (prim / line) as usize;
-        let cells = (RAM_SIZE / line * colours) as usize;
+        // What each shape keeps is known of one that was asked.
+        let _is_one = shape.sc();
+        let lines = shape.places() as usize;
+        let cells = (shape.lines_in(RAM_SIZE) * shape.colours()) as usize;
         Ok(Tables {
             shape,
-            prim_bits: prim_bits(prim),
-            line_bits,
-            page_bits: 12 - line_bits,
-            colours,
-            lines,
             data_marks: Marks::new(alloc, cells, lines)?,
             instruction_marks: Marks::new(alloc, cells, lines)?,
             steps: 0,
@@ -116,7 +83,7 @@ impl Tables {
         ensures in_data { result < self.now.data_table.cells }
         ensures in_instructions { result < self.now.instruction_table.cells }
     {
-        place_at(self.page_bits, self.lines, granule, colour)
+        self.shape.copy_of(granule, colour) as usize
     }
 
     // What the ledger has of a cell of the data cache.
@@ -141,8 +108,7 @@ impl Tables {
         ensures in_data { result < self.now.data_table.cells }
         ensures in_instructions { result < self.now.instruction_table.cells }
     {
-        let page = (pa / 4096) as usize;
-        page * self.lines + self.index(va) as usize
+        self.shape.accessed_copy(pa, va) as usize
     }
 
     // What the ledger has of the copy in the data cache that an access means.
@@ -215,7 +181,7 @@ impl Tables {
         ensures is { result ≡ meets (grid_of self.old.shape) (other_colours granule colour) (facts_of self.old).dirty }
         ensures reads { Reads self.old self.new }
     {
-        for other in 0..self.colours {
+        for other in 0..self.shape.colours() {
             if other != colour && self.data_mark(granule, other).dirty {
                 return true;
             }
@@ -230,7 +196,7 @@ impl Tables {
         ensures is { result ≡ meets (grid_of self.old.shape) (granules granule 1) (facts_of self.old).dirty }
         ensures reads { Reads self.old self.new }
     {
-        for colour in 0..self.colours {
+        for colour in 0..self.shape.colours() {
             if self.data_mark(granule, colour).dirty {
                 return true;
             }
@@ -245,7 +211,7 @@ impl Tables {
         ensures is { result ≡ true → IsLeft (facts_of self.old) granule (grid_of self.old.shape).colours }
         ensures reads { Reads self.old self.new }
     {
-        for colour in 0..self.colours {
+        for colour in 0..self.shape.colours() {
             if !self.data_mark(granule, colour).is_left() {
                 return false;
             }
@@ -277,7 +243,7 @@ impl Tables {
         ensures facts { facts_of self.new ≡ aged (granules granule 1) (facts_of self.old) }
         ensures kept { Keeps self.old self.new }
     {
-        for colour in 0..self.colours {
+        for colour in 0..self.shape.colours() {
             let mark = self.data_mark(granule, colour);
             let old = mark.held | mark.old;
             self.put_data_mark(granule, colour, DataMark { old, ..mark });
@@ -291,7 +257,7 @@ impl Tables {
         ensures facts { facts_of self.new ≡ instructions_aged (granules granule 1) (facts_of self.old) }
         ensures kept { Keeps self.old self.new }
     {
-        for colour in 0..self.colours {
+        for colour in 0..self.shape.colours() {
             let mark = self.instruction_mark(granule, colour);
             let old = mark.held | mark.old;
             self.put_instruction_mark(granule, colour, InstructionMark { old, ..mark });
@@ -327,7 +293,7 @@ impl Tables {
         ensures granule { result ≡ granule self.now.shape pa }
         ensures inside { result < (grid_of self.now.shape).whole }
     {
-        (pa >> self.line_bits) as u32
+        self.shape.granule(pa)
     }
 
     // How many granules the beat of the disk at an address has.
@@ -338,16 +304,7 @@ impl Tables {
         ensures count { result ≡ beat_granules self.now.shape }
         ensures inside { granule self.now.shape pa + result ≤ (grid_of self.now.shape).whole }
     {
-        32 >> self.line_bits
-    }
-
-    // The place of a virtual address in a primary cache.
-    #[inline]
-    pub(crate) fn in_cache(&self, va: u32) -> u32
-        ensures place { result ≡ va % self.now.shape.prim }
-        ensures inside { result < colours self.now.shape * 4096 }
-    {
-        va & ((1 << self.prim_bits) - 1)
+        self.shape.lines_in(32)
     }
 
     // The colour of a virtual address.
@@ -356,7 +313,7 @@ impl Tables {
         ensures colour { result ≡ colour self.now.shape va }
         ensures inside { result < colours self.now.shape }
     {
-        self.in_cache(va) / PAGE
+        self.shape.colour(va)
     }
 
     // The index of a virtual address.
@@ -365,7 +322,7 @@ impl Tables {
         ensures index { result ≡ index self.now.shape va }
         ensures inside { result < places self.now.shape }
     {
-        self.in_cache(va) >> self.line_bits
+        self.shape.index(va)
     }
 
     // Whether a granule may be dirty at an index.
@@ -375,7 +332,7 @@ impl Tables {
             result ≡ meets grid (at_index grid.page index) (facts_of self.old).dirty }
         ensures reads { Reads self.old self.new }
     {
-        let page_bits = self.page_bits;
+        let page_bits = self.shape.page_bits();
         let colour = index >> page_bits;
         let within = index - (colour << page_bits);
         for page in 0..PAGES {

@@ -19,5 +19,5 @@ loop-colour-preserved c =
 
 pub returns-clause-facts : goal.returns-clause-facts
 returns-clause-facts c =
-    let end : (grid_of c.args.self.now.shape).colours ≤ c.loop-colour.colour = rw (← c.self.view_is, ← c.self.invariant.0.colours) c.loop-colour-test.false in
+    let end : (grid_of c.args.self.now.shape).colours ≤ c.loop-colour.colour = rw (← c.self.view_is, ← c.colours-colour-end.ensures.is) c.loop-colour-test.false in
     c.loop-colour.invariant.facts ∙ instructions_aged_all (facts_of c.args.self.now) c.args.granule c.loop-colour.colour (λ h d far. iheld_past c.args.self.now h d (omega arith))

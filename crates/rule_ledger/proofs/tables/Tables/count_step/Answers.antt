@@ -3,7 +3,7 @@ use Rattle.rule_ledger.proofs.Reading.{counted_more, facts_counted}
 use Rattle.rule_ledger.proofs.tables.Tables.count_step.Goals as goal
 
 pub invariant_of-self : goal.invariant_of-self
-invariant_of-self c = let i = c.self.invariant in (i.0, i.1, i.2, i.3, counted_more _ _ i.4, counted_more _ _ i.5)
+invariant_of-self c = let i = c.self.invariant in (i.0, i.1, i.2, counted_more _ _ i.3, counted_more _ _ i.4)
 
 pub returns : goal.returns
 returns c =
@@ -13,6 +13,6 @@ returns c =
       shape = refl;
       steps = refl;
       touches = refl;
-      data_room = λ row. let low = i.4.stamps row in omega arith;
-      instruction_room = λ row. let low = i.5.stamps row in omega arith;
+      data_room = λ row. let low = i.3.stamps row in omega arith;
+      instruction_room = λ row. let low = i.4.stamps row in omega arith;
     })

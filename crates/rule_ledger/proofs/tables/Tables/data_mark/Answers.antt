@@ -4,11 +4,11 @@ use Rattle.rule_ledger.proofs.Reading.{table_read, counted_read, data_read, fact
 use Rattle.rule_ledger.proofs.tables.Tables.data_mark.Goals as goal
 
 pub invariant_of-self : goal.invariant_of-self
-invariant_of-self c = let i = c.self.invariant in rw c.get.ensures.kept (i.0, table_read _ _ _ i.1, i.2, i.3, counted_read _ _ _ i.4, i.5)
+invariant_of-self c = let i = c.self.invariant in rw c.get.ensures.kept (i.0, table_read _ _ _ i.1, i.2, counted_read _ _ _ i.3, i.4)
 
 pub returns-clause-mark : goal.returns-clause-mark
 returns-clause-mark c = rw (c.from_bits.ensures, c.get.ensures.mark, c.place-place.ensures.place, ← c.self.view_is)
-    (data_read _ (grid_is _ _ _ _ _ _ c.self.invariant.0) c.args.granule c.args.colour (rw (← c.self.view_is) at c.requires.granule) (rw (← c.self.view_is) at c.requires.colour))
+    (data_read _ (grid_is _ c.self.invariant.0) c.args.granule c.args.colour (rw (← c.self.view_is) at c.requires.granule) (rw (← c.self.view_is) at c.requires.colour))
 
 pub returns-clause-reads : goal.returns-clause-reads
 returns-clause-reads c = rw (← c.self.view_is, c.get.ensures.kept) (record { facts = facts_data_read _ _; shape = refl; steps = refl })

@@ -7,7 +7,7 @@ use Rattle.rule_ledger.specs.MarkFlags.{with_instruction}
 use Rattle.rule_ledger.proofs.Meeting.{meets_cell}
 use Rattle.rule_ledger.proofs.Rows.{fetch_breach, fetched}
 use Rattle.rule_ledger.proofs.Reading.{reads_then, meets_read}
-use Rattle.rule_ledger.proofs.Answering.{breached, kept_rules, counted_rules, reads_keeps, keeps_then}
+use Rattle.rule_ledger.proofs.Answering.{breached, kept_rules, reads_keeps, keeps_then}
 use Rattle.rule_ledger.proofs.tables.Tables.fetch.Goals as goal
 
 pub returns-then-mark : goal.returns-then-mark

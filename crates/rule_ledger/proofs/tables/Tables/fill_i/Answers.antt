@@ -1,11 +1,10 @@
 use Rattle.rule_ledger.specs.MarkFlags.{with_instruction}
-use Rattle.std.proofs.Common.{◌≡◌, ◌∙◌, sym, ap, refl, true, false, subst, ◌+◌}
+use Rattle.std.proofs.Common.{◌≡◌, ◌∙◌, sym, ap, true, false}
 use Rattle.rule_ledger.specs.Cells.{Grid, grid_of, meets}
 use Rattle.rule_ledger.specs.Facts.{Facts, granules}
 use Rattle.rule_ledger.specs.Marks.{facts_of}
 use Rattle.rule_ledger.proofs.Rows.{fill_i_breach, filled}
-use Rattle.rule_ledger.proofs.Reading.{reads_then, meets_read}
-use Rattle.rule_ledger.proofs.Answering.{breached, kept_rules, counted_rules, reads_keeps, keeps_then}
+use Rattle.rule_ledger.proofs.Answering.{breached, kept_rules, reads_keeps, keeps_then}
 use Rattle.rule_ledger.proofs.tables.Tables.fill_i.Goals as goal
 
 pub returns-then-is_dirty : goal.returns-then-is_dirty

@@ -1,13 +1,12 @@
 use Rattle.rule_ledger.specs.MarkFlags.{with_data}
-use Rattle.std.proofs.Common.{◌≡◌, ◌∙◌, sym, ap, refl, true, false}
+use Rattle.std.proofs.Common.{◌≡◌, ◌∙◌, sym, ap, true, false}
 use Rattle.rule_ledger.specs.declared.marks.DataMark.{DataMark}
 use Rattle.rule_ledger.specs.Cells.{Grid, grid_of, meets}
 use Rattle.rule_ledger.specs.Facts.{Facts, cell}
 use Rattle.rule_ledger.specs.Marks.{facts_of}
 use Rattle.rule_ledger.proofs.Meeting.{meets_cell}
 use Rattle.rule_ledger.proofs.Rows.{hit_invalidate_d_breach, hit_invalidated_d}
-use Rattle.rule_ledger.proofs.Reading.{reads_then, meets_read}
-use Rattle.rule_ledger.proofs.Answering.{breached, kept_rules, counted_rules, reads_keeps, keeps_then}
+use Rattle.rule_ledger.proofs.Answering.{breached, kept_rules, reads_keeps, keeps_then}
 use Rattle.rule_ledger.proofs.tables.Tables.hit_invalidate_d.Goals as goal
 
 pub returns-then-mark : goal.returns-then-mark

@@ -4,8 +4,7 @@ use Rattle.rule_ledger.specs.Cells.{Grid, grid_of}
 use Rattle.rule_ledger.specs.Facts.{Facts, cell}
 use Rattle.rule_ledger.specs.Marks.{facts_of}
 use Rattle.rule_ledger.proofs.Rows.{hit_writeback_d_breach, hit_written_d}
-use Rattle.rule_ledger.proofs.Reading.{reads_then, meets_read}
-use Rattle.rule_ledger.proofs.Answering.{breached, kept_rules, counted_rules, reads_keeps, keeps_then}
+use Rattle.rule_ledger.proofs.Answering.{kept_rules, reads_keeps, keeps_then}
 use Rattle.rule_ledger.proofs.tables.Tables.hit_writeback_d.Goals as goal
 
 pub returns : goal.returns

@@ -1,10 +1,9 @@
-use Rattle.std.proofs.Common.{◌∙◌, ap}
+use Rattle.std.proofs.Common.{◌∙◌}
 use Rattle.rule_ledger.specs.Cells.{Grid, grid_of}
 use Rattle.rule_ledger.specs.Facts.{Facts, cell}
 use Rattle.rule_ledger.specs.Marks.{facts_of}
 use Rattle.rule_ledger.proofs.Rows.{writeback_invalidate_d_breach, hit_written_invalidated_d}
-use Rattle.rule_ledger.proofs.Reading.{reads_then, meets_read}
-use Rattle.rule_ledger.proofs.Answering.{breached, kept_rules, counted_rules, reads_keeps, keeps_then}
+use Rattle.rule_ledger.proofs.Answering.{kept_rules}
 use Rattle.rule_ledger.proofs.tables.Tables.hit_writeback_invalidate_d.Goals as goal
 
 pub returns : goal.returns

@@ -1,7 +1,5 @@
-use Rattle.std.proofs.Common.{◌≡◌, ◌≤◌, ◌+◌, Bool, true, false, subst}
+use Rattle.std.proofs.Common.{subst}
 use Rattle.std.proofs.lemmas.Bool.{le-ltb}
-use Rattle.access_trace.specs.declared.event.Event.{Event}
-use Rattle.access_trace.specs.declared.event.EventKind.{EventKind}
 use Rattle.rule_ledger.specs.Rules.{Row}
 use Rattle.rule_ledger.specs.Steps.{Follows}
 use Rattle.rule_ledger.proofs.Rows.{row_of_access, no_flush}

@@ -20,7 +20,7 @@ loop-colour-preserved c =
 pub returns-then-data_mark : goal.returns-then-data_mark
 returns-then-data_mark c =
     let before = c.loop-colour.invariant in
-    let inside : c.loop-colour.colour < (grid_of c.args.self.now.shape).colours = rw (← c.self.view_is, ← c.self.invariant.0.colours) c.loop-colour-test.true in
+    let inside : c.loop-colour.colour < (grid_of c.args.self.now.shape).colours = rw (← c.self.view_is, ← c.colours-colour-end.ensures.is) c.loop-colour-test.true in
     let dirty : (facts_of c.args.self.now).dirty c.args.granule c.loop-colour.colour ≡ true =
     sym (ap (λ (k : Facts). k.dirty c.args.granule c.loop-colour.colour) before.reads.facts) ∙ (sym (ap (λ (m : DataMark). m.dirty) c.data_mark.ensures.mark) ∙ c.if-data_mark.true) in
     record {
@@ -30,7 +30,7 @@ returns-then-data_mark c =
 
 pub returns : goal.returns
 returns c =
-    let end : (grid_of c.args.self.now.shape).colours ≤ c.loop-colour.colour = rw (← c.self.view_is, ← c.self.invariant.0.colours) c.loop-colour-test.false in
+    let end : (grid_of c.args.self.now.shape).colours ≤ c.loop-colour.colour = rw (← c.self.view_is, ← c.colours-colour-end.ensures.is) c.loop-colour-test.false in
     record {
       is = sym (none_on (grid_of c.args.self.now.shape) (facts_of c.args.self.now).dirty c.args.granule 1 (λ g d gl dl low high. rw (same_granule g c.args.granule low high) (c.loop-colour.invariant.clean d (omega arith))));
       reads = c.loop-colour.invariant.reads;

@@ -1,8 +1,7 @@
-use Rattle.std.proofs.Common.{sym, ap, subst, ◌∙◌}
+use Rattle.std.proofs.Common.{sym, ap, ◌∙◌}
 use Rattle.std.proofs.lemmas.Bool.{not-true}
-use Rattle.r4_shape.specs.Numbers.{Numbers, IsShape}
+use Rattle.r4_shape.specs.Numbers.{IsShape}
 use Rattle.rule_ledger.specs.declared.marks.InstructionMark.{InstructionMark}
-use Rattle.rule_ledger.specs.Marks.{Ledger}
 use Rattle.rule_ledger.proofs.AnyEvent.{granule_inside, colour_inside}
 use Rattle.rule_ledger.proofs.Settling.{settled_fetch}
 use Rattle.rule_ledger.proofs.tables.Tables.is_settled_fetch.Goals as goal

@@ -1,7 +1,6 @@
-use Rattle.std.proofs.Common.{sym, ap, subst, ◌∙◌}
-use Rattle.r4_shape.specs.Numbers.{Numbers, IsShape}
+use Rattle.std.proofs.Common.{sym, ap, ◌∙◌}
+use Rattle.r4_shape.specs.Numbers.{IsShape}
 use Rattle.rule_ledger.specs.declared.marks.DataMark.{DataMark}
-use Rattle.rule_ledger.specs.Marks.{Ledger}
 use Rattle.rule_ledger.proofs.AnyEvent.{granule_inside, colour_inside}
 use Rattle.rule_ledger.proofs.Settling.{settled_store}
 use Rattle.rule_ledger.proofs.tables.Tables.is_settled_store.Goals as goal

@@ -1,10 +1,9 @@
-use Rattle.std.proofs.Common.{◌≡◌, ◌∙◌, sym, refl, true, false, ap, subst, ◌+◌}
+use Rattle.std.proofs.Common.{◌≡◌, ◌∙◌, sym, true, false}
 use Rattle.rule_ledger.specs.Cells.{Grid, grid_of, meets}
 use Rattle.rule_ledger.specs.Facts.{Facts, granules}
 use Rattle.rule_ledger.specs.Marks.{facts_of}
 use Rattle.rule_ledger.proofs.Rows.{read_breach}
-use Rattle.rule_ledger.proofs.Reading.{reads_then, meets_read}
-use Rattle.rule_ledger.proofs.Answering.{breached, kept_rules, counted_rules, reads_keeps, keeps_then}
+use Rattle.rule_ledger.proofs.Answering.{breached, kept_rules, reads_keeps}
 use Rattle.rule_ledger.proofs.tables.Tables.read_past.Goals as goal
 
 pub returns-then-is_any_dirty : goal.returns-then-is_any_dirty

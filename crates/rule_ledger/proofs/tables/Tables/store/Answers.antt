@@ -7,7 +7,7 @@ use Rattle.rule_ledger.specs.Marks.{facts_of}
 use Rattle.rule_ledger.proofs.Meeting.{meets_cell}
 use Rattle.rule_ledger.proofs.Rows.{store_breach, stored}
 use Rattle.rule_ledger.proofs.Reading.{reads_then, meets_read}
-use Rattle.rule_ledger.proofs.Answering.{breached, kept_rules, counted_rules, reads_keeps, keeps_then}
+use Rattle.rule_ledger.proofs.Answering.{breached, kept_rules, reads_keeps, keeps_then}
 use Rattle.rule_ledger.proofs.tables.Tables.store.Goals as goal
 
 pub returns-then-data_mark : goal.returns-then-data_mark

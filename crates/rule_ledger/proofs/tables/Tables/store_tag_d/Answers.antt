@@ -1,12 +1,11 @@
 use Rattle.r4_shape.specs.Numbers.{Numbers}
 use Rattle.rule_ledger.specs.MarkFlags.{data_cleared}
-use Rattle.std.proofs.Common.{◌≡◌, ◌∙◌, sym, ap, refl, true, false, subst, ◌+◌}
+use Rattle.std.proofs.Common.{◌≡◌, ◌∙◌, sym, ap, true, false, subst, ◌+◌}
 use Rattle.rule_ledger.specs.Cells.{Grid, grid_of, meets}
 use Rattle.rule_ledger.specs.Facts.{Facts, at_index}
 use Rattle.rule_ledger.specs.Marks.{facts_of}
 use Rattle.rule_ledger.proofs.Rows.{store_tag_d_breach}
-use Rattle.rule_ledger.proofs.Reading.{reads_then, meets_read}
-use Rattle.rule_ledger.proofs.Answering.{breached, kept_rules, counted_rules, reads_keeps, keeps_then}
+use Rattle.rule_ledger.proofs.Answering.{breached}
 use Rattle.rule_ledger.proofs.tables.Tables.store_tag_d.Goals as goal
 
 pub returns-then-is_dirty_at : goal.returns-then-is_dirty_at
