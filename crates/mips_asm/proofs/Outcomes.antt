@@ -1,8 +1,8 @@
 -- What a source is assembled to, by its first fault.
-use Rattle.std.proofs.Common.{◌≡◌, ◌<◌, ℕ, List, Some, length, ap, sym, ◌∙◌, subst}
+use Rattle.std.proofs.Common.{◌≡◌, ◌<◌, ℕ, List, Some, length, ap, sym, ◌∙◌, inl, inr}
 use Rattle.mips_text.specs.declared.reason.AsmWhy.{AsmWhy}
-use Rattle.mips_asm.specs.Layout.{Placed, placed, readings_of, labels_of, layout_fault}
-use Rattle.mips_asm.specs.Assembly.{Image, Bad, HasNoFault, IsFirstFault, first_fault, coding_fault, entry_of, bytes_of_lines, assembled_by_layout, assembled_by_coding, assembled_all, assembled, source_base, source_lines, source_labels, source_bytes, layout_faults, coding_faults}
+use Rattle.mips_asm.specs.Layout.{Placed, labels_of, layout_fault}
+use Rattle.mips_asm.specs.Assembly.{Image, Bad, HasNoFault, IsFirstFault, IsFaultless, IsRefusedAt, first_fault, coding_fault, entry_of, bytes_of_lines, assembled_by_layout, assembled_by_coding, assembled_all, assembled, source_base, source_lines, source_labels, source_bytes, layout_faults, coding_faults}
 use Rattle.mips_asm.proofs.Faults.{found_within, first_fault_is, no_first_fault}
 
 layout_within : (base : ℕ) (lines : List Placed) (n : ℕ) (reason : AsmWhy) → layout_fault base lines n ≡ Some reason → n < length lines
@@ -14,7 +14,7 @@ unfolding coding_fault
 coding_within labels lines n reason is = found_within _ lines n reason is
 
 -- a source whose first fault is of the first kind
-pub refused_by_layout : (source : List ℕ) (number : ℕ) (reason : AsmWhy) → IsFirstFault (layout_faults source) number reason → assembled source ≡ Bad number reason
+refused_by_layout : (source : List ℕ) (number : ℕ) (reason : AsmWhy) → IsFirstFault (layout_faults source) number reason → assembled source ≡ Bad number reason
 unfolding assembled
 refused_by_layout source number reason is =
     ap (assembled_by_layout (source_base source) (source_lines source))
@@ -27,7 +27,7 @@ unfolding assembled
 laid_out source none = ap (assembled_by_layout (source_base source) (source_lines source)) (no_first_fault (layout_faults source) (length (source_lines source)) none)
 
 -- a source whose first fault is of the second kind
-pub refused_by_coding : (source : List ℕ) (number : ℕ) (reason : AsmWhy) → HasNoFault (layout_faults source) → IsFirstFault (coding_faults source) number reason → assembled source ≡ Bad number reason
+refused_by_coding : (source : List ℕ) (number : ℕ) (reason : AsmWhy) → HasNoFault (layout_faults source) → IsFirstFault (coding_faults source) number reason → assembled source ≡ Bad number reason
 refused_by_coding source number reason none is =
     laid_out source none
     ∙ ap (assembled_by_coding (source_base source) (source_labels source) (source_lines source))
@@ -41,18 +41,19 @@ image_of_lines base lines laid coded =
     ∙ ap (assembled_by_coding base (labels_of lines) lines) (no_first_fault (coding_fault (labels_of lines) lines) (length lines) coded)
 
 -- a source without a fault
-pub image_of : (source : List ℕ) → HasNoFault (layout_faults source) → HasNoFault (coding_faults source) → assembled source ≡ Image (source_base source) (entry_of (source_base source) (source_labels source)) (source_bytes source)
+image_of : (source : List ℕ) → HasNoFault (layout_faults source) → HasNoFault (coding_faults source) → assembled source ≡ Image (source_base source) (entry_of (source_base source) (source_labels source)) (source_bytes source)
 unfolding assembled
 image_of source laid coded = image_of_lines (source_base source) (source_lines source) laid coded
 
--- the same, where the calls of the passes came to these
-at_base : (source : List ℕ) (entry : ℕ) (labels : List (List ℕ × ℕ)) (bytes : List ℕ) → labels ≡ source_labels source → HasNoFault (layout_faults source) → bytes ≡ bytes_of_lines labels (source_lines source) → HasNoFault (coding_fault labels (source_lines source)) → entry ≡ entry_of (source_base source) labels → assembled source ≡ Image (source_base source) entry bytes
-at_base source entry labels bytes labelled laid filled coded entered =
-    image_of source laid (subst (λ known. HasNoFault (coding_fault known (source_lines source))) labelled coded)
-    ∙ ap (λ at. Image (source_base source) at (source_bytes source)) (sym (entered ∙ ap (entry_of (source_base source)) labelled))
-    ∙ ap (Image (source_base source) entry) (sym (filled ∙ ap (λ known. bytes_of_lines known (source_lines source)) labelled))
+-- the same, where an image has these parts
+pub image_by_facts : (source : List ℕ) (base entry : ℕ) (bytes : List ℕ) → base ≡ source_base source → entry ≡ entry_of base (source_labels source) → bytes ≡ source_bytes source → IsFaultless source → assembled source ≡ Image base entry bytes
+image_by_facts source base entry bytes based entered filled faultless =
+    image_of source faultless.0 faultless.1
+    ∙ ap (λ at. Image (source_base source) at (source_bytes source)) (sym (entered ∙ ap (λ at. entry_of at (source_labels source)) based))
+    ∙ ap (λ at. Image at entry (source_bytes source)) (sym based)
+    ∙ ap (Image base entry) (sym filled)
 
-pub image_by : (source : List ℕ) (base entry : ℕ) (labels : List (List ℕ × ℕ)) (bytes : List ℕ) → base ≡ source_base source → labels ≡ labels_of (placed base (readings_of source)) → HasNoFault (layout_fault base (placed base (readings_of source))) → bytes ≡ bytes_of_lines labels (placed base (readings_of source)) → HasNoFault (coding_fault labels (placed base (readings_of source))) → entry ≡ entry_of base labels → assembled source ≡ Image base entry bytes
-image_by source base entry labels bytes based =
-    let P : ℕ → Type 0 = λ at. labels ≡ labels_of (placed at (readings_of source)) → HasNoFault (layout_fault at (placed at (readings_of source))) → bytes ≡ bytes_of_lines labels (placed at (readings_of source)) → HasNoFault (coding_fault labels (placed at (readings_of source))) → entry ≡ entry_of at labels → assembled source ≡ Image at entry bytes in
-    subst P (sym based) (at_base source entry labels bytes)
+-- a source that is refused at this line for this reason
+pub refused_by_facts : (source : List ℕ) (number : ℕ) (reason : AsmWhy) → IsRefusedAt source number reason → assembled source ≡ Bad number reason
+refused_by_facts source number reason (inl is) = refused_by_layout source number reason is
+refused_by_facts source number reason (inr is) = refused_by_coding source number reason is.0 is.1

@@ -145,8 +145,3 @@ IsRefusedAt source number reason =
 abbrev pub IsRefusedBy : List ℕ → AsmFault → Type 0
 IsRefusedBy source (fault.Bad line reason) = IsRefusedAt source line reason
 IsRefusedBy source fault.Memory = Unit {0}
-
--- The same of what a source is assembled to.
-abbrev pub IsRefused : Assembly → AsmFault → Type 0
-IsRefused assembly (fault.Bad line reason) = assembly ≡ Bad line reason
-IsRefused assembly fault.Memory = Unit {0}

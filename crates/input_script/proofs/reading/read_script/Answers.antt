@@ -1,5 +1,4 @@
-use Rattle.input_script.proofs.Passed.{before_line, before_more, before_none, first_bad, none_at_all, read_all}
-use Rattle.input_script.proofs.Outcomes.{text_without_fault, text_with_fault}
+use Rattle.input_script.proofs.Passed.{before_line, before_more, before_none, first_bad, none_at_all}
 use Rattle.input_script.proofs.reading.read_script.Goals as goal
 
 pub returns-in-Err-clause-first_bad : goal.returns-in-Err-clause-first_bad
@@ -8,13 +7,6 @@ returns-in-Err-clause-first_bad c =
     let here = before_line _ _ _ _ _ c.in-Some.text first.result.part.now first.result.rest c.loop-rest.invariant c.in-Some.is first.ensures.parts in
     let fault = rw c.in-Err.is at c.in_ok-taken.ensures.taken in
     first_bad _ _ _ _ _ _ _ here fault
-
-pub returns-in-Err-clause-bad : goal.returns-in-Err-clause-bad
-returns-in-Err-clause-bad c =
-    let first = c.first_part-first in
-    let here = before_line _ _ _ _ _ c.in-Some.text first.result.part.now first.result.rest c.loop-rest.invariant c.in-Some.is first.ensures.parts in
-    let fault = rw c.in-Err.is at c.in_ok-taken.ensures.taken in
-    text_with_fault _ _ _ (first_bad _ _ _ _ _ _ _ here fault)
 
 pub loop-rest-preserved : goal.loop-rest-preserved
 loop-rest-preserved c =
@@ -27,8 +19,3 @@ loop-rest-preserved c =
 
 pub returns-clause-faultless : goal.returns-clause-faultless
 returns-clause-faultless c = none_at_all _ _ _ _ (before_none _ _ _ _ _ c.loop-rest.invariant c.in_default.is)
-
-pub returns-clause-text : goal.returns-clause-text
-returns-clause-text c =
-    let all = before_none _ _ _ _ _ c.loop-rest.invariant c.in_default.is in
-    text_without_fault _ _ (none_at_all _ _ _ _ all) (read_all _ _ _ _ all)
