@@ -1,8 +1,8 @@
 use Rattle.std.proofs.Common.{◌≡◌, ◌≤◌, ◌+◌, length}
 use Rattle.access_trace.specs.Traces.{events_left, trace_of}
 use Rattle.trace_check.specs.Verdicts.{standing_at, start}
-use Rattle.checked_run.specs.RunTexts.{judged_from}
-use Rattle.checked_run.proofs.judging.judge_text.Given as goal
+use Rattle.trace_check.specs.JudgedTraces.{judged_from}
+use Rattle.trace_check.proofs.reading.judge_text.Given as goal
 
 -- what is left of the trace brings the judge to where the whole trace brings a new one
 abbrev pub invariant-loop-judge : goal.invariant-loop-judge

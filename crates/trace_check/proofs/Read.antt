@@ -3,7 +3,7 @@ use Rattle.std.proofs.Common.{◌≡◌, ℕ, List, Result, Ok, Err, refl}
 use Rattle.access_trace.specs.declared.event.Event.{Event}
 use Rattle.access_trace.specs.Traces.{with_event}
 use Rattle.trace_check.specs.Verdicts.{Standing, held}
-use Rattle.checked_run.specs.RunTexts.{judged_from}
+use Rattle.trace_check.specs.JudgedTraces.{judged_from}
 
 -- one event more
 pub judged_more : (standing : Standing) (event : Event) (later : Result (List Event) ℕ) →

@@ -4,12 +4,12 @@ ghost use Rattle.std.specs.Prelude.{◌≡◌, ◌≤◌, length, IfOk, IfErr, f
 ghost use Rattle.access_trace.specs.Faults.{IsFaultOf};
 ghost use Rattle.access_trace.specs.Traces.{trace_of};
 ghost use Rattle.trace_check.specs.Verdicts.{standing_at, start};
-ghost use Rattle.checked_run.specs.RunTexts as law;
+ghost use Rattle.trace_check.specs.JudgedTraces as law;
 
+use crate::judging::Judge;
 use access_trace::{TraceFault, TraceReader};
 use r4_shape::Shape;
 use std::alloc::Global;
-use trace_check::Judge;
 
 // A judge who has seen no event.
 fn new_judge(alloc: Global, shape: Shape) -> Result<Judge, TraceFault>
