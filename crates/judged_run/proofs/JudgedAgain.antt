@@ -6,12 +6,13 @@ use Rattle.access_trace.proofs.WrittenTrace.{trace_of_text}
 use Rattle.machine_core.specs.Run.{run_of}
 use Rattle.machine_core.specs.Traced.{machine_in}
 use Rattle.trace_check.specs.Verdicts.{start}
-use Rattle.flat_bridge.specs.Benches.{BenchState, events_in, standing_after}
-use Rattle.checked_run.specs.RunTexts.{checked_text, judged_from, IsJudgedAgain}
+use Rattle.judged_run.specs.JudgedMachines.{JudgedState, events_in, standing_after}
+use Rattle.trace_check.specs.JudgedTraces.{judged_from}
+use Rattle.judged_run.specs.RunTexts.{checked_text, IsJudgedAgain}
 
-pub judged_again : (steps : ℕ) (bench : BenchState) → All IsEvent (events_in steps bench) → IsJudgedAgain steps bench
-judged_again steps bench grammar shape rest =
-    let events = events_in steps bench in
-    let behind : List ℕ = checked_text (run_of steps (machine_in bench.machine)).machine (standing_after bench events).first in
+pub judged_again : (steps : ℕ) (judged : JudgedState) → All IsEvent (events_in steps judged) → IsJudgedAgain steps judged
+judged_again steps judged grammar shape rest =
+    let events = events_in steps judged in
+    let behind : List ℕ = checked_text (run_of steps (machine_in judged.machine)).machine (standing_after judged events).first in
     ap (judged_from (start shape))
     (ap trace_of (append_assoc (trace_text events) behind rest) ∙ trace_of_text events (behind ++ rest) grammar)

@@ -1,5 +1,7 @@
+pub mod JudgedParts
+pub mod Halting
+pub mod JudgedRuns
 pub mod Ended
 pub mod Written
-pub mod Read
 pub mod EventTexts
-mod JudgedAgain
+pub mod JudgedAgain

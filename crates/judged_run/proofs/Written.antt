@@ -10,24 +10,24 @@ use Rattle.mips3_exec.specs.Tick.{goes_on}
 use Rattle.r4_ports.specs.Writing.{Stand, Writes}
 use Rattle.r4_ports.proofs.Writing.{writes_nothing, writes_same, writes_stopped, writes_then}
 use Rattle.run_report.proofs.EventLines.{events_text_then}
-use Rattle.flat_bridge.specs.Benches.{BenchState}
-use Rattle.flat_bridge.specs.Benches.{Ticked, events_in}
-use Rattle.flat_bridge.proofs.BenchRuns.{events_more, events_end}
+use Rattle.judged_run.specs.JudgedMachines.{JudgedState}
+use Rattle.judged_run.specs.JudgedMachines.{Ticked, events_in}
+use Rattle.judged_run.proofs.JudgedRuns.{events_more, events_end}
 
 -- the tick of a machine that has halted has nothing to write
 pub writes_halted : (at : Stand) (span : ℕ) (machine : MachineState) (code : ℕ) → machine.cpu.halt ≡ Some code → Writes at at (events_text (tick_events span machine))
 writes_halted at span machine code is = writes_same at at [] (events_text (tick_events span machine)) (writes_nothing at) (ap events_text (sym (halted_events span machine code is)))
 
--- A text was written. It and the events of what is left of a run, so many ticks from this bench on, are the events of the whole run.
-pub record IsBeingWritten (left : ℕ) (bench : BenchState) (steps : ℕ) (initial : BenchState) (old new : Stand) : Type 0 where
+-- A text was written. It and the events of what is left of a run, so many ticks from this judged on, are the events of the whole run.
+pub record IsBeingWritten (left : ℕ) (judged : JudgedState) (steps : ℕ) (initial : JudgedState) (old new : Stand) : Type 0 where
   pub text : List ℕ
   pub writes : Writes old new text
-  pub is_all : text ++ events_text (events_in left bench) ≡ events_text (events_in steps initial)
+  pub is_all : text ++ events_text (events_in left judged) ≡ events_text (events_in steps initial)
 
-pub writing_first : (left steps : ℕ) (bench : BenchState) (at : Stand) → left ≡ steps → IsBeingWritten left bench steps bench at at
-writing_first left steps bench at is = record { text = []; writes = writes_nothing at; is_all = ap (λ n. events_text (events_in n bench)) is }
+pub writing_first : (left steps : ℕ) (judged : JudgedState) (at : Stand) → left ≡ steps → IsBeingWritten left judged steps judged at at
+writing_first left steps judged at is = record { text = []; writes = writes_nothing at; is_all = ap (λ n. events_text (events_in n judged)) is }
 
-pub writing_more : (left rest steps : ℕ) (initial old new : BenchState) (answer : Tick) (a b c : Stand) → IsBeingWritten left old steps initial a b →
+pub writing_more : (left rest steps : ℕ) (initial old new : JudgedState) (answer : Tick) (a b c : Stand) → IsBeingWritten left old steps initial a b →
     Ticked old new answer → goes_on answer ≡ true → left ≡ rest + 1 →
     Writes b c (events_text (tick_events old.machine.span_left (machine_in old.machine))) → IsBeingWritten rest new steps initial a c
 writing_more left rest steps initial old new answer a b c being ticked on is writes =
@@ -42,15 +42,15 @@ writing_more left rest steps initial old new answer a b c being ticked on is wri
     }
 
 -- no tick is left
-pub writing_made : (left steps : ℕ) (initial bench : BenchState) (a b : Stand) → IsBeingWritten left bench steps initial a b → left ≡ 0 → Writes a b (events_text (events_in steps initial))
-writing_made left steps initial bench a b being is =
+pub writing_made : (left steps : ℕ) (initial judged : JudgedState) (a b : Stand) → IsBeingWritten left judged steps initial a b → left ≡ 0 → Writes a b (events_text (events_in steps initial))
+writing_made left steps initial judged a b being is =
     writes_same a b being.text (events_text (events_in steps initial)) being.writes
     (sym (append-nil being.text)
-    ∙ ap (λ events. being.text ++ events_text events) (sym (run_events_none left bench.machine.span_left (machine_in bench.machine) is))
+    ∙ ap (λ events. being.text ++ events_text events) (sym (run_events_none left judged.machine.span_left (machine_in judged.machine) is))
     ∙ being.is_all)
 
 -- a tick halted
-pub writing_halted : (left steps : ℕ) (initial old new : BenchState) (answer : Tick) (a b c : Stand) → IsBeingWritten left old steps initial a b →
+pub writing_halted : (left steps : ℕ) (initial old new : JudgedState) (answer : Tick) (a b c : Stand) → IsBeingWritten left old steps initial a b →
     Ticked old new answer → goes_on answer ≡ false → 0 < left →
     Writes b c (events_text (tick_events old.machine.span_left (machine_in old.machine))) → Writes a c (events_text (events_in steps initial))
 writing_halted left steps initial old new answer a b c being ticked off lt writes =
@@ -60,7 +60,7 @@ writing_halted left steps initial old new answer a b c being ticked off lt write
     (ap (λ events. being.text ++ events_text events) (sym (events_end old new answer ticked left lt off)) ∙ being.is_all)
 
 -- a write failed
-pub writing_failed : (left steps : ℕ) (initial bench : BenchState) (a b : Stand) → IsBeingWritten left bench steps initial a b → b.failed ≡ true → Writes a b (events_text (events_in steps initial))
-writing_failed left steps initial bench a b being failed =
-    let rest = events_text (events_in left bench) in
+pub writing_failed : (left steps : ℕ) (initial judged : JudgedState) (a b : Stand) → IsBeingWritten left judged steps initial a b → b.failed ≡ true → Writes a b (events_text (events_in steps initial))
+writing_failed left steps initial judged a b being failed =
+    let rest = events_text (events_in left judged) in
     writes_same a b (being.text ++ rest) (events_text (events_in steps initial)) (writes_then a b b being.text rest (writes_stopped b rest failed) being.writes) being.is_all

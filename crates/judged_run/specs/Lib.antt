@@ -1,1 +1,2 @@
+pub mod JudgedMachines
 pub mod RunTexts

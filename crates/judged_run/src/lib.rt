@@ -1,13 +1,15 @@
-//! A run that is judged and written while it is made, and a trace that is judged while it is read.
+//! A machine with the judge of its events, and its run that is written while it is made.
 //!
-//! - `judging`: a judge of events that were written.
-//! - `writing`: the run of a bench, of which each event is written as it comes; the report and the verdict.
+//! - `judged_machine`: the machine with its judge, tick by tick and over a run.
+//! - `judging`: the events of a tick, shown to a judge.
+//! - `writing`: a run of which each event is written as it comes; the report and the verdict.
 //!
-//! What is written stands in specs/RunTexts.antt; the bench and its run are those of `flat_bridge`.
+//! The definitions stand in specs/JudgedMachines.antt; what is written stands in specs/RunTexts.antt.
 #![tactic(auto)]
 
+mod judged_machine;
 mod judging;
 mod writing;
 
-pub use judging::judge_text;
-pub use writing::{write_checked, write_judged, write_traced};
+pub use judged_machine::JudgedMachine;
+pub use writing::{write_checked, write_traced};

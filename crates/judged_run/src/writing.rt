@@ -1,6 +1,6 @@
 //! A run whose events are written as they come, and then its report and the verdict.
 
-ghost use Rattle.std.specs.Prelude.{◌≡◌, ◌+◌, ◌<◌, ◌^◌, IfSome, OnOk, OnErr, true, false};
+ghost use Rattle.std.specs.Prelude.{◌≡◌, ◌+◌, ◌<◌, ◌^◌, IfSome, OnOk, OnErr, None, true, false};
 ghost use Rattle.access_trace.specs.Grammar.{IsEvent};
 ghost use Rattle.access_trace.specs.Traces.{events_text};
 ghost use Rattle.machine_core.specs.TickEvents.{events_of, listed};
@@ -9,17 +9,15 @@ ghost use Rattle.r4_ports.specs.Told.{Appended, AppendedPrefix, HasCause};
 ghost use Rattle.r4_ports.specs.Writing.{Writes, stand};
 ghost use Rattle.run_report.specs.Verdict.{verdict_text};
 ghost use Rattle.trace_check.specs.Verdicts.{verdict_by, event_by};
-ghost use Rattle.flat_bridge.specs.Benches.{HasRun, IsCounted, Ticked, events_in};
-ghost use Rattle.flat_bridge.specs.Runs.{RunWasFlat};
-ghost use Rattle.checked_run.specs.RunTexts as law;
+ghost use Rattle.judged_run.specs.JudgedMachines.{HasRun, HasRunWithin, Ticked, events_in};
+ghost use Rattle.judged_run.specs.RunTexts as law;
 
+use crate::judged_machine::JudgedMachine;
 use access_trace::Event;
-use flat_bridge::Bench;
 use machine_core::{Log, beat_of_log, event_of_log, shows_fetch};
 use mips3_exec::Tick;
 use r4_ports::{Pending, Sink, SinkFault, finish};
 use run_report::{put_end, put_event, put_report, put_verdict};
-use trace_check::Judge;
 
 // Writes the line of an event, where there is one.
 #[inline(always)]
@@ -47,146 +45,124 @@ fn put_tick_events<K: Sink>(tick: u32, span: u32, log: &Log, out: &mut K, pendin
 
 // Makes one tick, and writes its events.
 #[tactic(auto, using(crate::proofs::Written::writes_halted))]
-fn put_tick<K: Sink>(bench: &mut Bench, out: &mut K, pending: &mut Pending) -> Tick
-    requires ticks { bench.old.machine.cpu.ticks < 4294967295 }
-    requires counted { IsCounted bench.old }
-    ensures ticked { Ticked bench.old bench.new result }
+fn put_tick<K: Sink>(judged: &mut JudgedMachine, out: &mut K, pending: &mut Pending) -> Tick
+    requires ticks { judged.old.machine.cpu.halt ≡ None → judged.old.machine.cpu.ticks < 4294967295 }
+    ensures ticked { Ticked judged.old judged.new result }
     ensures writes { Writes (stand K.written K.faults out.old pending.old)
         (stand K.written K.faults out.new pending.new)
-        (events_text (tick_events bench.old.machine.span_left (machine_in bench.old.machine))) }
+        (events_text (tick_events judged.old.machine.span_left (machine_in judged.old.machine))) }
 {
-    if let Some(code) = bench.halted() {
+    if let Some(code) = judged.halted() {
         return Tick::Halted(code);
     }
-    let (ticks, span) = (bench.ticks(), bench.span());
-    let answer = bench.tick();
-    put_tick_events(ticks, span, bench.log(), out, pending);
+    let (ticks, span) = (judged.ticks(), judged.span());
+    let answer = judged.tick();
+    put_tick_events(ticks, span, judged.log(), out, pending);
     answer
 }
 
 // Makes so many ticks, up to one that halts, and writes the events of each, up to a write that fails.
-fn put_run<K: Sink>(bench: &mut Bench, steps: u32, out: &mut K, pending: &mut Pending)
-    requires ticks { bench.old.machine.cpu.ticks + steps < 2 ^ 32 }
-    requires counted { IsCounted bench.old }
+fn put_run<K: Sink>(judged: &mut JudgedMachine, steps: u32, out: &mut K, pending: &mut Pending)
+    requires ticks { judged.old.machine.cpu.ticks + steps < 2 ^ 32 }
     ensures writes { Writes (stand K.written K.faults out.old pending.old)
         (stand K.written K.faults out.new pending.new)
-        (events_text (events_in steps bench.old)) }
-    ensures whole { pending.new.failed ≡ false → HasRun steps bench.old bench.new }
+        (events_text (events_in steps judged.old)) }
+    ensures whole { pending.new.failed ≡ false → HasRun steps judged.old judged.new }
+    ensures within { HasRunWithin steps judged.old judged.new }
 {
     for step in 0..steps {
         if pending.failed {
             return;
         }
-        match put_tick(bench, out, pending) {
+        match put_tick(judged, out, pending) {
             Tick::Ran | Tick::Trapped(_) => {}
             Tick::Halted(_) => return,
         }
     }
 }
 
-// Writes the verdict on the events of a bench, unless a write failed before.
-fn put_verdict_on<K: Sink>(bench: &Bench, out: &mut K, pending: &mut Pending)
+// Writes the verdict on the events of a judged machine, unless a write failed before.
+fn put_verdict_on<K: Sink>(judged: &JudgedMachine, out: &mut K, pending: &mut Pending)
     ensures writes { Writes (stand K.written K.faults out.old pending.old)
         (stand K.written K.faults out.new pending.new)
-        (verdict_text (verdict_by bench.now.judge.first) (event_by bench.now.judge.first)) }
+        (verdict_text (verdict_by judged.now.judge.first) (event_by judged.now.judge.first)) }
 {
-    put_verdict(&bench.verdict(), &bench.first(), out, pending);
+    put_verdict(&judged.verdict(), &judged.first(), out, pending);
 }
 
-// Writes the report of a bench's machine and the verdict on it, unless a write failed before.
-fn put_checked<K: Sink>(bench: &Bench, out: &mut K, pending: &mut Pending)
+// Writes the report of a judged machine and the verdict on it, unless a write failed before.
+fn put_checked<K: Sink>(judged: &JudgedMachine, out: &mut K, pending: &mut Pending)
     ensures writes { Writes (stand K.written K.faults out.old pending.old)
         (stand K.written K.faults out.new pending.new)
-        (law.checked_text (machine_in bench.now.machine) bench.now.judge.first) }
+        (law.checked_text (machine_in judged.now.machine) judged.now.judge.first) }
 {
-    put_report(&bench.view(), out, pending);
-    put_verdict_on(bench, out, pending);
+    put_report(&judged.view(), out, pending);
+    put_verdict_on(judged, out, pending);
 }
 
-// Writes the verdict of a judge, unless a write failed before.
-fn put_judged<K: Sink>(judge: &Judge, out: &mut K, pending: &mut Pending)
-    ensures writes { Writes (stand K.written K.faults out.old pending.old)
-        (stand K.written K.faults out.new pending.new)
-        (verdict_text (verdict_by judge.now.first) (event_by judge.now.first)) }
-{
-    put_verdict(&judge.verdict(), &judge.first(), out, pending);
-}
-
-/// Writes the verdict of a judge. After Ok it has gone out; where a write fails, a prefix of it was written.
-pub fn write_judged<K: Sink>(judge: &Judge, out: &mut K) -> Result<(), SinkFault>
+/// Writes the report of a judged machine and the verdict on it. After Ok it has gone out; where a write fails, a prefix of it was written.
+pub fn write_checked<K: Sink>(judged: &JudgedMachine, out: &mut K) -> Result<(), SinkFault>
     ensures ok { OnOk result (Appended (K.written out.old) (K.written out.new)
-        (verdict_text (verdict_by judge.now.first) (event_by judge.now.first))) }
+        (law.checked_text (machine_in judged.now.machine) judged.now.judge.first)) }
     ensures flushed { OnOk result (K.is_flushed out.new ≡ true) }
     ensures err { OnErr result (AppendedPrefix (K.written out.old) (K.written out.new)
-        (verdict_text (verdict_by judge.now.first) (event_by judge.now.first))) }
+        (law.checked_text (machine_in judged.now.machine) judged.now.judge.first)) }
     ensures cause { HasCause (K.faults out.old) (K.faults out.new) result }
 {
     let mut pending = Pending::new();
-    put_judged(judge, out, &mut pending);
-    finish(out, &mut pending)
-}
-
-/// Writes the report of a bench's machine and the verdict on it. After Ok it has gone out; where a write fails, a prefix of it was written.
-pub fn write_checked<K: Sink>(bench: &Bench, out: &mut K) -> Result<(), SinkFault>
-    ensures ok { OnOk result (Appended (K.written out.old) (K.written out.new)
-        (law.checked_text (machine_in bench.now.machine) bench.now.judge.first)) }
-    ensures flushed { OnOk result (K.is_flushed out.new ≡ true) }
-    ensures err { OnErr result (AppendedPrefix (K.written out.old) (K.written out.new)
-        (law.checked_text (machine_in bench.now.machine) bench.now.judge.first)) }
-    ensures cause { HasCause (K.faults out.old) (K.faults out.new) result }
-{
-    let mut pending = Pending::new();
-    put_checked(bench, out, &mut pending);
+    put_checked(judged, out, &mut pending);
     finish(out, &mut pending)
 }
 
 // Makes so many ticks, up to one that halts, and writes the trace, the report and the verdict, up to a write that fails.
-fn put_traced<K: Sink>(bench: &mut Bench, steps: u32, out: &mut K, pending: &mut Pending)
-    requires ticks { bench.old.machine.cpu.ticks + steps < 2 ^ 32 }
-    requires counted { IsCounted bench.old }
+fn put_traced<K: Sink>(judged: &mut JudgedMachine, steps: u32, out: &mut K, pending: &mut Pending)
+    requires ticks { judged.old.machine.cpu.ticks + steps < 2 ^ 32 }
     ensures writes { Writes (stand K.written K.faults out.old pending.old)
-        (stand K.written K.faults out.new pending.new) (law.traced_text steps bench.old) }
-    ensures whole { pending.new.failed ≡ false → HasRun steps bench.old bench.new }
+        (stand K.written K.faults out.new pending.new) (law.traced_text steps judged.old) }
+    ensures whole { pending.new.failed ≡ false → HasRun steps judged.old judged.new }
+    ensures within { HasRunWithin steps judged.old judged.new }
 {
-    put_run(bench, steps, out, pending);
+    put_run(judged, steps, out, pending);
     if pending.failed {
         return;
     }
     put_end(out, pending);
-    put_checked(bench, out, pending);
+    put_checked(judged, out, pending);
 }
 
 // Makes such a run and writes it. After Ok all has gone out.
-fn write_run<K: Sink>(bench: &mut Bench, steps: u32, out: &mut K) -> Result<(), SinkFault>
-    requires ticks { bench.old.machine.cpu.ticks + steps < 2 ^ 32 }
-    requires counted { IsCounted bench.old }
-    ensures ok { OnOk result (Appended (K.written out.old) (K.written out.new) (law.traced_text steps bench.old)) }
+fn write_run<K: Sink>(judged: &mut JudgedMachine, steps: u32, out: &mut K) -> Result<(), SinkFault>
+    requires ticks { judged.old.machine.cpu.ticks + steps < 2 ^ 32 }
+    ensures ok { OnOk result (Appended (K.written out.old) (K.written out.new) (law.traced_text steps judged.old)) }
     ensures flushed { OnOk result (K.is_flushed out.new ≡ true) }
     ensures err { OnErr result
-        (AppendedPrefix (K.written out.old) (K.written out.new) (law.traced_text steps bench.old)) }
+        (AppendedPrefix (K.written out.old) (K.written out.new) (law.traced_text steps judged.old)) }
     ensures cause { HasCause (K.faults out.old) (K.faults out.new) result }
-    ensures whole { OnOk result (HasRun steps bench.old bench.new) }
+    ensures whole { OnOk result (HasRun steps judged.old judged.new) }
+    ensures within { HasRunWithin steps judged.old judged.new }
 {
     let mut pending = Pending::new();
-    put_traced(bench, steps, out, &mut pending);
+    put_traced(judged, steps, out, &mut pending);
     finish(out, &mut pending)
 }
 
 /// Makes so many ticks, up to one that halts. The trace is written while they are made, and then the report and the verdict. After
-/// Ok all has gone out; where a write fails, a prefix of it was written, and no further tick is made. Where no event of it breaks a
-/// rule, the run is one of the flat machine.
-pub fn write_traced<K: Sink>(bench: &mut Bench, steps: u32, out: &mut K) -> Result<(), SinkFault>
-    requires ticks { bench.old.machine.cpu.ticks + steps < 2 ^ 32 }
-    requires counted { IsCounted bench.old }
-    ensures ok { OnOk result (Appended (K.written out.old) (K.written out.new) (law.traced_text steps bench.old)) }
+/// Ok all has gone out; where a write fails, a prefix of it was written, and no further tick is made. Also then the ticks
+/// that were made are a run, and stay within the bound.
+pub fn write_traced<K: Sink>(
+    judged: &mut JudgedMachine,
+    steps: u32,
+    out: &mut K,
+) -> Result<(), SinkFault>
+    requires ticks { judged.old.machine.cpu.ticks + steps < 2 ^ 32 }
+    ensures ok { OnOk result (Appended (K.written out.old) (K.written out.new) (law.traced_text steps judged.old)) }
     ensures flushed { OnOk result (K.is_flushed out.new ≡ true) }
     ensures err { OnErr result
-        (AppendedPrefix (K.written out.old) (K.written out.new) (law.traced_text steps bench.old)) }
+        (AppendedPrefix (K.written out.old) (K.written out.new) (law.traced_text steps judged.old)) }
     ensures cause { HasCause (K.faults out.old) (K.faults out.new) result }
-    ensures whole { OnOk result (HasRun steps bench.old bench.new) }
-    ensures flat { OnOk result (RunWasFlat steps bench.old) }
-    ensures judged_again { OnOk result (law.IsJudgedAgain steps bench.old) }
+    ensures whole { OnOk result (HasRun steps judged.old judged.new) }
+    ensures within { HasRunWithin steps judged.old judged.new }
+    ensures judged_again { OnOk result (law.IsJudgedAgain steps judged.old) }
 {
-    let _calm = bench.calm();
-    write_run(bench, steps, out)
+    write_run(judged, steps, out)
 }

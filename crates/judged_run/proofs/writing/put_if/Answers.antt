@@ -2,8 +2,8 @@ use Rattle.std.proofs.Common.{ap, ◌∙◌, sym}
 use Rattle.access_trace.specs.Traces.{events_text}
 use Rattle.machine_core.specs.TickEvents.{listed}
 use Rattle.r4_ports.proofs.Writing.{writes_nothing, writes_same}
-use Rattle.checked_run.proofs.EventTexts.{text_of_one}
-use Rattle.checked_run.proofs.writing.put_if.Goals as goal
+use Rattle.judged_run.proofs.EventTexts.{text_of_one}
+use Rattle.judged_run.proofs.writing.put_if.Goals as goal
 
 pub returns-in-Some : goal.returns-in-Some
 returns-in-Some g c =

@@ -2,9 +2,9 @@ use Rattle.std.proofs.Common.{◌∙◌, ◌++◌, ap, sym}
 use Rattle.access_trace.specs.Traces.{events_text}
 use Rattle.machine_core.specs.TickEvents.{listed, beat_of_log, event_of_log}
 use Rattle.r4_ports.proofs.Writing.{writes_then, writes_same}
-use Rattle.flat_bridge.proofs.JudgedParts.{events_by_parts}
-use Rattle.checked_run.proofs.EventTexts.{text_of_three}
-use Rattle.checked_run.proofs.writing.put_tick_events.Goals as goal
+use Rattle.judged_run.proofs.JudgedParts.{events_by_parts}
+use Rattle.judged_run.proofs.EventTexts.{text_of_three}
+use Rattle.judged_run.proofs.writing.put_tick_events.Goals as goal
 
 pub returns : goal.returns
 returns g c =
