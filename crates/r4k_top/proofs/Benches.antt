@@ -10,8 +10,8 @@ use Rattle.machine_core.specs.Shown.{shown_of}
 use Rattle.machine_core.specs.Traced.{machine_in, run_events}
 use Rattle.trace_check.specs.declared.found.Found.{Found}
 use Rattle.trace_check.specs.Verdicts.{Standing, standing_of}
-use Rattle.flat_bridge.specs.Benches.{BenchState, Begins, HasRun, events_in, standing_after}
-use Rattle.flat_bridge.proofs.BenchRuns.{events_of_reset, first_of_reset, machine_run_from_reset}
+use Rattle.judged_run.specs.JudgedMachines.{JudgedState, Begins, HasRun, events_in, standing_after}
+use Rattle.judged_run.proofs.JudgedRuns.{events_of_reset, first_of_reset, machine_run_from_reset}
 use Rattle.r4k_top.specs.declared.telling.Telling.TheVariants as telling
 use Rattle.r4k_top.specs.Outcome.{Makes, named_file, report_at, checked, run_job}
 use Rattle.r4k_top.specs.EndShown.{traced_shown}
@@ -24,7 +24,7 @@ report_made shape steps out reset begin end begins run =
     ap (λ machine. report_at out (run_of steps machine).machine) (sym begins) ∙ ap (report_at out) (sym run)
 
 -- the report and the verdict
-pub check_made : (shape : Numbers) (steps : ℕ) (out : Option (List ℕ)) (reset : MachineState) (old new : BenchState) →
+pub check_made : (shape : Numbers) (steps : ℕ) (out : Option (List ℕ)) (reset : MachineState) (old new : JudgedState) →
     Begins shape reset old → HasRun steps old new →
     run_job telling.Verdict shape steps out reset ≡ Makes (checked out [] new.judge.first (machine_in new.machine))
 unfolding run_job
@@ -37,7 +37,7 @@ check_made shape steps out reset old new begins run =
     ∙ ap (λ (found : Option Found). Makes (checked out [] found (machine_in new.machine))) (sym first)
 
 -- and with the trace before them
-pub trace_made : (shape : Numbers) (steps : ℕ) (out : Option (List ℕ)) (reset : MachineState) (bench : BenchState) →
+pub trace_made : (shape : Numbers) (steps : ℕ) (out : Option (List ℕ)) (reset : MachineState) (bench : JudgedState) →
     Begins shape reset bench → run_job telling.Trace shape steps out reset ≡ Makes (traced_shown out steps bench)
 unfolding run_job
 trace_made shape steps out reset bench begins =
@@ -46,9 +46,9 @@ trace_made shape steps out reset bench begins =
     ∙ ap (λ (machine : MachineState). Makes (checked out (trace_text (events_in steps bench)) (standing_after bench (events_in steps bench)).first (run_of steps machine).machine)) (sym begins.machine)
 
 -- no tick was made at the beginning
-pub no_ticks : (shape : Numbers) (reset : MachineState) (bench : BenchState) → Begins shape reset bench → bench.machine.cpu.ticks ≡ 0
+pub no_ticks : (shape : Numbers) (reset : MachineState) (bench : JudgedState) → Begins shape reset bench → bench.machine.cpu.ticks ≡ 0
 no_ticks shape reset bench begins = begins.ticks
 
 -- and no event was judged
-pub few_events : (shape : Numbers) (reset : MachineState) (bench : BenchState) → Begins shape reset bench → bench.judge.events ≤ 3 * bench.machine.cpu.ticks
+pub few_events : (shape : Numbers) (reset : MachineState) (bench : JudgedState) → Begins shape reset bench → bench.judge.events ≤ 3 * bench.machine.cpu.ticks
 few_events shape reset bench begins = begins.counted.few

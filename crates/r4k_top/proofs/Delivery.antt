@@ -13,7 +13,7 @@ use Rattle.machine_core.specs.Run.{run_of}
 use Rattle.machine_core.specs.Shown.{shown_of}
 use Rattle.machine_core.specs.Traced.{machine_in}
 use Rattle.trace_check.specs.Verdicts.{Standing, verdict_by}
-use Rattle.flat_bridge.specs.Benches.{BenchState, HasRun}
+use Rattle.judged_run.specs.JudgedMachines.{JudgedState, HasRun}
 use Rattle.r4k_top.specs.declared.statuses.Status.{Status}
 use Rattle.r4k_top.specs.declared.statuses.Status.TheVariants.{WriteFault}
 use Rattle.r4k_top.specs.Outcome.{Made, file_name, named_file, checked}
@@ -83,7 +83,7 @@ undelivered held asked puts before u v gone f h made prefix rose = record {
 }
 
 -- The file and the verdict of a run that was made while its trace was written.
-pub placed_traced : {S : Type 0} (held : S → Option Files) (asked : S → Option (List Call)) (puts : S → ℕ) (before now : S) (answer : Status) (out : Option (List ℕ)) (steps : ℕ) (old new : BenchState) →
+pub placed_traced : {S : Type 0} (held : S → Option Files) (asked : S → Option (List Call)) (puts : S → ℕ) (before now : S) (answer : Status) (out : Option (List ℕ)) (steps : ℕ) (old new : JudgedState) →
     HasRun steps old new → Placed held asked puts before now (checked out [] new.judge.first (machine_in new.machine)).verdict (checked out [] new.judge.first (machine_in new.machine)).file answer →
     Placed held asked puts before now (traced_shown out steps old).verdict (traced_shown out steps old).file answer
 placed_traced held asked puts before now answer out steps old new run placed =

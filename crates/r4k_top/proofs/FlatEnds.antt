@@ -2,9 +2,9 @@
 use Rattle.std.proofs.Common.{◌≡◌, ◌∙◌, refl, ℕ, List, Option, Some, None, ap, sym, subst}
 use Rattle.access_trace.specs.declared.event.Verdict.TheVariants.{Yes}
 use Rattle.flat_bridge.specs.Beside.{StandsBeside}
-use Rattle.flat_bridge.specs.Benches.{BenchState, Begins, events_in, standing_after}
+use Rattle.judged_run.specs.JudgedMachines.{JudgedState, Begins, events_in, standing_after}
 use Rattle.flat_bridge.specs.Runs.{RunsAsFlat, RunWasFlat}
-use Rattle.flat_bridge.proofs.BenchRuns.{events_of_reset, first_of_reset}
+use Rattle.judged_run.proofs.JudgedRuns.{events_of_reset, first_of_reset}
 use Rattle.flat_machine.specs.declared.flat_state.Flat.{Flat}
 use Rattle.flat_machine.specs.FlatMachine.{flat_reset_of, flat_shown_of}
 use Rattle.flat_machine.specs.FlatRun.{flat_run_of}
@@ -39,7 +39,7 @@ shown_beside machine book flat agrees =
     ap (λ (cpu : Cpu). shown_of (record machine { cpu = cpu })) agrees.cpu
     ∙ ap (λ (devices : RecordedState). flat_shown_of (record { cpu = flat.cpu; memory = record flat.memory { devices = devices } })) agrees.memory.devices
 
-module _ (shape : Numbers) (steps : ℕ) (reset : MachineState) (flat : Flat) (bench : BenchState) (begins : Begins shape reset bench)
+module _ (shape : Numbers) (steps : ℕ) (reset : MachineState) (flat : Flat) (bench : JudgedState) (begins : Begins shape reset bench)
     (agrees : StandsBeside (machine_in bench.machine) (book_of bench.judge) flat) where
   -- the run of a bench from reset is that of the flat machine from reset
   pub flat_from_reset : RunWasFlat steps bench → IsFlatWhereYes shape steps reset flat

@@ -8,8 +8,8 @@ use Rattle.machine_core.specs.Traced.{machine_in, run_events}
 use Rattle.r4_ports.specs.Told.{Files, Call, Appended}
 use Rattle.trace_check.specs.declared.found.Found.{Found}
 use Rattle.trace_check.specs.Verdicts.{Standing, standing_of}
-use Rattle.flat_bridge.specs.Benches.{BenchState, Begins, HasRun, events_in}
-use Rattle.flat_bridge.proofs.BenchRuns.{events_of_reset, first_of_reset, machine_run_from_reset}
+use Rattle.judged_run.specs.JudgedMachines.{JudgedState, Begins, HasRun, events_in}
+use Rattle.judged_run.proofs.JudgedRuns.{events_of_reset, first_of_reset, machine_run_from_reset}
 use Rattle.prom_code.specs.PromWords.{boot_prom}
 use Rattle.r4k_top.specs.Command.{Make}
 use Rattle.r4k_top.specs.Making.{MadeOf}
@@ -22,7 +22,7 @@ unfolding image_of elf_header program_header
 length_image base entry body = length-append (elf_header entry ++ program_header base (length body)) body
 
 -- the run of a bench from its beginning
-pub load_made : (words steps : ℕ) (name image : List ℕ) (reset : MachineState) (old new : BenchState) →
+pub load_made : (words steps : ℕ) (name image : List ℕ) (reset : MachineState) (old new : JudgedState) →
     Begins load_shape reset old → HasRun steps old new →
     run_load words steps name image reset ≡ Makes (summed_up words name image new.judge.first (machine_in new.machine))
 unfolding run_load

@@ -8,7 +8,7 @@ use Rattle.access_trace.specs.Traces.{trace_text}
 use Rattle.machine_core.specs.Run.{run_of}
 use Rattle.machine_core.specs.Traced.{machine_in}
 use Rattle.flat_bridge.specs.Runs.{RunWasFlat}
-use Rattle.flat_bridge.specs.Benches.{BenchState, events_in, standing_after}
+use Rattle.judged_run.specs.JudgedMachines.{JudgedState, events_in, standing_after}
 use Rattle.r4k_top.specs.declared.product.FileMade.{FileMade}
 use Rattle.r4k_top.specs.declared.product.Finished.{Finished}
 use Rattle.r4k_top.specs.declared.product.Finished.TheVariants as finished
@@ -27,7 +27,7 @@ file_shown None = None
 file_shown (Some file) = Some (record { name = file.name.now; bytes = file.bytes.now })
 
 -- what a run that is still to be made and traced comes to
-abbrev pub traced_shown : Option (List ℕ) → ℕ → BenchState → Made
+abbrev pub traced_shown : Option (List ℕ) → ℕ → JudgedState → Made
 traced_shown out steps bench =
     checked out (trace_text (events_in steps bench)) (standing_after bench (events_in steps bench)).first
     (run_of steps (machine_in bench.machine)).machine

@@ -18,7 +18,7 @@ use Rattle.access_trace.specs.declared.event.Verdict.{Verdict}
 use Rattle.access_trace.specs.Traces.{trace_of, trace_text}
 use Rattle.trace_check.specs.declared.found.Found.{Found}
 use Rattle.trace_check.specs.Verdicts.{standing_of, verdict_by, event_by}
-use Rattle.checked_run.specs.RunTexts.{checked_text}
+use Rattle.judged_run.specs.RunTexts.{checked_text}
 use Rattle.run_report.specs.Verdict.{verdict_text}
 use Rattle.input_script.specs.declared.inputs.Input.{Input}
 use Rattle.input_script.specs.Grammar as script

@@ -20,7 +20,6 @@ ghost use Rattle.r4k_top.specs.declared.statuses.Status.TheVariants.{TooLong};
 use crate::plan::{Inquiry, Plan};
 use crate::statuses::Status;
 use access_trace::TraceFault;
-use checked_run::judge_text;
 use elf_image::{Image, read_image, write_image};
 use input_script::{Script, ScriptFault, read_script};
 use load_maker::{PROGRAM_BASE, word_bytes};
@@ -29,7 +28,7 @@ use r4_ports::{FetchFault, Shelf};
 use r4_shape::Shape;
 use std::alloc::Global;
 use std::marker::Model;
-use trace_check::Judge;
+use trace_check::{Judge, judge_text};
 
 /// The most bytes of an image, of a script and of a source.
 pub const FILE_LIMIT: usize = 16777216;

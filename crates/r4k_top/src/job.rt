@@ -8,7 +8,7 @@ ghost use Rattle.machine_core.specs.Machine.{reset_of};
 ghost use Rattle.machine_core.specs.Traced.{machine_in};
 ghost use Rattle.trace_check.specs.Verdicts.{book_of};
 ghost use Rattle.flat_bridge.specs.Beside.{StandsBeside};
-ghost use Rattle.flat_bridge.specs.Benches.{Begins};
+ghost use Rattle.judged_run.specs.JudgedMachines.{Begins};
 ghost use Rattle.prom_code.specs.PromWords.{boot_prom};
 ghost use Rattle.r4k_top.specs.Command as law;
 ghost use Rattle.r4k_top.specs.CommandShown.{name_shown, plan_shown, command_shown};

@@ -16,13 +16,13 @@ use crate::files::ImageFile;
 use crate::statuses::Status;
 use crate::traced_run::TracedRun;
 use access_trace::Verdict;
-use checked_run::{write_checked, write_judged, write_traced};
 use flat_bridge::Bench;
 use image_listing::write_listing;
+use judged_run::write_checked;
 use load_maker::{Summary, write_summary};
 use machine_core::Machine;
 use r4_ports::{PutFault, Shelf, Sink, SinkFault, write_all};
-use run_report::write_report;
+use run_report::{write_report, write_verdict};
 use trace_check::Judge;
 
 /// What is made, and has only to go out.
@@ -88,8 +88,8 @@ fn write_text<K: Sink>(finished: &Finished<'_>, out: &mut K) -> Result<(), SinkF
 {
     match finished {
         Finished::Report { machine, out: _ } => write_report(&machine.view(), out),
-        Finished::Checked { bench, out: _ } => write_checked(bench, out),
-        Finished::Judged(judge) => write_judged(judge, out),
+        Finished::Checked { bench, out: _ } => write_checked(bench.judged(), out),
+        Finished::Judged(judge) => write_verdict(&judge.verdict(), &judge.first(), out),
         Finished::Listing(image) => write_listing(&image.image(), out),
         Finished::File { .. } => write_all(b"", out),
         Finished::Load { bench, words, .. } => write_summary(&summary_of(bench, *words), out),
@@ -216,7 +216,7 @@ fn deliver_traced<F: Shelf, K: Sink>(
     ensures flat { IsComplete result → RunWasFlat run.steps run.bench }
 {
     let TracedRun { mut bench, steps } = run;
-    match write_traced(&mut bench, steps, out) {
+    match bench.write_traced(steps, out) {
         Ok(()) => place(&Finished::Checked { bench, out: name }, shelf),
         Err(_) => Status::WriteFault,
     }

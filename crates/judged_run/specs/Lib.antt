@@ -1,0 +1,2 @@
+pub mod JudgedMachines
+pub mod RunTexts
