@@ -5,6 +5,7 @@ ghost use Rattle.cp0_exceptions.specs.Causes as causes;
 ghost use Rattle.cp0_exceptions.specs.Causes.{IsRaised};
 ghost use Rattle.cp0_exceptions.specs.Raising as law;
 ghost use Rattle.cp0_regs.specs.Fields as fields;
+ghost use Rattle.cp0_regs.specs.Fixed.{KeepsFixed};
 ghost use Rattle.cp0_regs.specs.State.{with_value};
 
 use crate::codes::{
@@ -106,15 +107,12 @@ fn vector_of(cp0: &Cp0, refill: bool) -> u32
     }
 }
 
-/// Takes an exception at an instruction, which stands in a delay slot or does not: what becomes of CP0, and the pc to
-/// which it leads.
+// What an exception makes of CP0.
 #[tactic(auto, using(cp0_regs::proofs::Possible::free_cause_and_level), unfolding(crate::specs::Raising::raised))]
-pub fn raise(cp0: &mut Cp0, what: &Raised, pc: u32, slot: bool) -> u32
-    requires what { IsRaised what.now }
+fn change(cp0: &mut Cp0, what: &Raised, pc: u32, slot: bool)
+    requires { IsRaised what.now }
     ensures raised { cp0.new ≡ law.raised cp0.old what.now pc slot }
-    ensures vector { result ≡ law.vector_of cp0.old what.now.refill }
 {
-    let vector = vector_of(cp0, what.refill);
     set_return(cp0, pc, slot);
     cp0.set_field(EXC_CODE, u32::from(what.code));
     set_unit(cp0, what.code, what.unit);
@@ -122,5 +120,17 @@ pub fn raise(cp0: &mut Cp0, what: &Raised, pc: u32, slot: bool) -> u32
         show_address(cp0, what.code, address);
     }
     cp0.set_field(EXL, 1);
+}
+
+/// Takes an exception at an instruction, which stands in a delay slot or does not: what becomes of CP0, and the pc to
+/// which it leads.
+pub fn raise(cp0: &mut Cp0, what: &Raised, pc: u32, slot: bool) -> u32
+    requires what { IsRaised what.now }
+    ensures raised { cp0.new ≡ law.raised cp0.old what.now pc slot }
+    ensures vector { result ≡ law.vector_of cp0.old what.now.refill }
+    ensures fixed { KeepsFixed cp0.old cp0.new }
+{
+    let vector = vector_of(cp0, what.refill);
+    change(cp0, what, pc, slot);
     vector
 }

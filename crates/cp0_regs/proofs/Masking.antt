@@ -10,7 +10,7 @@ min_max : (a b m : ℕ) → min (max a b) m ≡ max (min a m) (min b m)
 min_max a b m = omega arith
 
 -- `&` goes into `|`
-and_or : (a b m : ℕ) → bit_and (bit_or a b) m ≡ bit_or (bit_and a m) (bit_and b m)
+pub and_or : (a b m : ℕ) → bit_and (bit_or a b) m ≡ bit_or (bit_and a m) (bit_and b m)
 and_or a b m =
     same_from_bits _ _
     (λ i. bit_at_and (bit_or a b) m i ∙ ap (λ n. min n (bit_at m i)) (bit_at_or a b i) ∙ min_max (bit_at a i) (bit_at b i) (bit_at m i)

@@ -5,4 +5,5 @@ pub mod Registers
 pub mod State
 pub mod Moves
 pub mod Counting
+pub mod Fixed
 pub mod Modes

@@ -3,6 +3,7 @@
 ghost use Rattle.std.specs.Prelude.{◌≡◌, ◌<◌, ◌≤◌, ◌+◌, ◌-◌, ◌^◌, slice_index, slice_set, None};
 ghost use Rattle.cp0_regs.specs.Bits.{HasOnly};
 ghost use Rattle.cp0_regs.specs.Counting as counting;
+ghost use Rattle.cp0_regs.specs.Fixed.{HasFixed, KeepsFixed};
 ghost use Rattle.cp0_regs.specs.Moves as moves;
 ghost use Rattle.cp0_regs.specs.PageMasks.{IsMask};
 ghost use Rattle.cp0_regs.specs.Registers.{possible_bits, register_of, reset_cp0};
@@ -51,9 +52,10 @@ fn taken_by(number: u8, value: u32) -> u32
 
 impl Cp0 {
     /// The registers at reset, with what the shape of the caches gives for Config.
-    #[tactic(auto, unfolding(crate::specs::Registers::reset_cp0))]
+    #[tactic(auto, using(crate::proofs::Fixed::reset_has), unfolding(crate::specs::Registers::reset_cp0))]
     pub fn new(config: u32) -> Cp0
         ensures reset { result ≡ reset_cp0 config }
+        ensures fixed { HasFixed config result }
     {
         let mut words = [0; 32];
         words[RANDOM as usize] = LAST_PAIR;
@@ -123,7 +125,9 @@ impl Cp0 {
         requires number { number < 32 }
         ensures written { self.new ≡ moves.written self.old number value }
         ensures unlisted { register_of number ≡ None → self.new ≡ self.old }
+        ensures fixed { KeepsFixed self.old self.new }
     {
+        self.keeps();
         let bits = written_bits(number);
         let word = self.read(number);
         let taken = taken_by(number, value);
@@ -136,11 +140,12 @@ impl Cp0 {
     }
 
     /// Gives the devices' lines, IP2 to IP6, these levels.
-    #[tactic(auto, using(crate::proofs::Possible::device_lines_is_free))]
+    #[tactic(auto, using(crate::proofs::Possible::device_lines_is_free, crate::proofs::Fixed::lines_keep))]
     pub fn lines(&mut self, levels: u8)
         requires levels { levels < 32 }
         ensures lines { self.new ≡ counting.with_lines self.old levels }
         ensures shown { value_of self.new device_lines ≡ levels }
+        ensures fixed { KeepsFixed self.old self.new }
     {
         self.set_field(DEVICE_LINES, u32::from(levels));
     }
@@ -182,10 +187,11 @@ impl Cp0 {
     }
 
     /// The end of a tick, which wrote Wired or did not: Count, the timer, and Random.
-    #[tactic(auto, unfolding(crate::specs::Counting::counted))]
+    #[tactic(auto, using(crate::proofs::Fixed::counted_keeps), unfolding(crate::specs::Counting::counted))]
     pub fn count(&mut self, wired: bool)
         ensures counted { self.new ≡ counting.counted self.old wired }
         ensures lines { value_of self.new device_lines ≡ value_of self.old device_lines }
+        ensures fixed { KeepsFixed self.old self.new }
     {
         self.grow_count();
         self.compare_timer();

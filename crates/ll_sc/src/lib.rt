@@ -5,6 +5,7 @@
 #![tactic(auto)]
 
 ghost use Rattle.std.specs.Prelude.{◌≡◌, ◌<◌, ◌^◌};
+ghost use Rattle.cp0_regs.specs.Fixed.{KeepsFixed};
 ghost use Rattle.ll_sc.specs.Linking as law;
 
 use cp0_regs::Cp0;
@@ -23,6 +24,7 @@ impl Link {
         requires physical { pa < 2 ^ 36 }
         ensures linked { self.new ≡ law.linked }
         ensures address { cp0.new ≡ law.with_linked_address cp0.old pa }
+        ensures fixed { KeepsFixed cp0.old cp0.new }
     {
         self.set = true;
         cp0.set(LL_ADDR, (pa / 16) as u32);

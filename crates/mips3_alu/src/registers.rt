@@ -36,6 +36,7 @@ impl Regs {
     pub fn write(&mut self, at: u8, value: u64)
         requires { at < 32 }
         ensures written { self.new ≡ law.with_register self.old at value }
+        ensures zero { law.register self.new 0 ≡ law.register self.old 0 }
     {
         if at != 0 {
             self.r[at as usize] = value;

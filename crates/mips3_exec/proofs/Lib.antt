@@ -5,3 +5,4 @@ pub mod EffectFacts
 pub mod Talks
 pub mod System
 pub mod Runs
+pub mod Fixed

@@ -11,3 +11,4 @@ pub mod Step
 pub mod Tick
 pub mod Pausing
 pub mod Run
+pub mod Fixed

@@ -2,6 +2,7 @@
 
 ghost use Rattle.std.specs.Prelude.{◌≡◌, ◌+◌, ◌<◌};
 ghost use Rattle.cp0_exceptions.specs.Causes.{IsRaised};
+ghost use Rattle.mips3_exec.specs.Fixed.{HasFixed};
 ghost use Rattle.mips3_exec.specs.Processor as law;
 
 use cp0_exceptions::{Raised, leave, raise};
@@ -33,10 +34,11 @@ pub struct Cpu {
 
 impl Cpu {
     /// The processor at reset, with this value of Config.
-    #[tactic(auto, unfolding(crate::specs::Processor::reset_cpu))]
+    #[tactic(auto, using(crate::proofs::Fixed::reset_fixed), unfolding(crate::specs::Processor::reset_cpu))]
     pub fn new(config: u32) -> Cpu
         ensures reset { result ≡ law.reset_cpu config }
         ensures ticks { result.ticks ≡ 0 }
+        ensures fixed { HasFixed config result }
     {
         Cpu {
             regs: Regs {
