@@ -25,7 +25,7 @@ use Rattle.r4k_top.specs.Command.{Plan, Command, Run}
 use Rattle.r4k_top.specs.FlatRuns.{IsFlatWhereYes, ToldFlat, PlanIsFlat, YesIsFlat}
 use Rattle.r4k_top.specs.Making.{IsSetup}
 use Rattle.r4k_top.specs.Outcome.{bytes_given}
-use Rattle.r4k_top.proofs.Benches.{trace_made, no_ticks, few_events}
+use Rattle.r4k_top.proofs.Benches.{check_made, trace_made, no_ticks}
 use Rattle.r4k_top.proofs.Reading.{of_told, given_told, script_told}
 
 -- a verdict of yes names no event
@@ -72,5 +72,8 @@ setup_flat (Some files) plan image inputs disk is flat =
 pub said_flat : (said : Option Command) (command : Command) (held : Option Files) → said ≡ Some command → YesIsFlat (Some command) held → YesIsFlat said held
 said_flat said command held is flat = subst (λ s. YesIsFlat s held) (sym is) flat
 
+-- the run of a bench that is made before its text is written
+pub ruleset untraced_run = (check_made, no_ticks, flat_from_reset)
+
 -- the run of a bench that is made while its trace is written
-pub ruleset traced_run = (trace_made, no_ticks, few_events, flat_from_reset)
+pub ruleset traced_run = (trace_made, no_ticks, flat_from_reset)

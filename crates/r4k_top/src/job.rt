@@ -26,9 +26,9 @@ use crate::files::{
 };
 use crate::plan::{Inquiry, Load, Plan};
 use crate::product::{Finished, Product};
+use crate::runs::{BenchRun, MachineRun, Untraced};
 use crate::statuses::Status;
 use crate::telling::Telling;
-use crate::traced_run::TracedRun;
 use elf_image::write_image;
 use flat_bridge::Bench;
 use input_script::Script;
@@ -62,7 +62,7 @@ fn name_out(alloc: Global, plan: &Plan<'_>) -> Result<Option<String>, Status>
     }
 }
 
-// Runs an image from reset for at most so many ticks, for its report.
+// The run of an image from reset for at most so many ticks, for its report.
 fn report_run<'a>(
     alloc: Global,
     plan: &Plan<'_>,
@@ -80,9 +80,9 @@ fn report_run<'a>(
         disk,
     } = setup;
     let prom = prom();
-    let mut machine = Machine::new(alloc, plan.shape, &prom, &image.image(), disk, script)?;
-    let _ = machine.run(plan.steps);
-    Ok(Product::Finished(Finished::Report { machine, out }))
+    let machine = Machine::new(alloc, plan.shape, &prom, &image.image(), disk, script)?;
+    let run = Untraced::Machine(MachineRun::new(machine, plan.steps));
+    Ok(Product::Untraced { run, out })
 }
 
 // The bench of a run, of which no tick was made.
@@ -103,8 +103,8 @@ fn start_bench(alloc: Global, plan: &Plan<'_>, setup: Setup) -> Result<Bench, St
     Ok(Bench::new(alloc, plan.shape, &prom, &image.image(), disk, script)?)
 }
 
-// Runs an image from reset for at most so many ticks, for its report and the verdict.
-#[tactic(auto, using(crate::proofs::Benches::check_made, crate::proofs::FlatEnds::flat_from_reset))]
+// The run of an image from reset for at most so many ticks, for its report and the verdict.
+#[tactic(auto, using(crate::proofs::FlatEnds::untraced_run))]
 fn check_run<'a>(
     alloc: Global,
     plan: &Plan<'_>,
@@ -114,14 +114,14 @@ fn check_run<'a>(
     requires { length setup.disk.items ≤ disk_limit }
     ensures made { IfOk result (λ product. run_job Telling.Verdict plan.now.shape plan.now.steps (out_shown out)
         (reset_of plan.now.shape boot_prom setup.image setup.disk.items setup.script) ≡ Makes (made_shown product)) }
-    ensures flat { OnOk result
-        (IsFlatWhereYes plan.now.shape plan.now.steps (reset_of plan.now.shape boot_prom setup.image setup.disk.items setup.script)
+    ensures flat { IfOk result (λ product. RunWillBeFlat product →
+        IsFlatWhereYes plan.now.shape plan.now.steps (reset_of plan.now.shape boot_prom setup.image setup.disk.items setup.script)
         (flat_reset_of plan.now.shape boot_prom setup.image setup.disk.items setup.script)) }
     ensures stopped { IfErr result (λ status. status ≡ Status.Memory) }
 {
-    let mut bench = start_bench(alloc, plan, setup)?;
-    bench.run(plan.steps);
-    Ok(Product::Finished(Finished::Checked { bench, out }))
+    let bench = start_bench(alloc, plan, setup)?;
+    let run = Untraced::Bench(BenchRun::new(bench, plan.steps));
+    Ok(Product::Untraced { run, out })
 }
 
 // The run of an image from reset for at most so many ticks, which is made while its trace is written.
@@ -141,11 +141,12 @@ fn trace_run<'a>(
     ensures stopped { IfErr result (λ status. status ≡ Status.Memory) }
 {
     let bench = start_bench(alloc, plan, setup)?;
-    let run = TracedRun::new(bench, plan.steps);
+    let run = BenchRun::new(bench, plan.steps);
     Ok(Product::Traced { run, out })
 }
 
-// Runs an image from reset for at most so many ticks, or prepares that. All memory is taken before the first tick.
+// The run of an image from reset for at most so many ticks, which is made on its way out. All memory is taken here, before its
+// first tick.
 fn run_setup<'a>(
     alloc: Global,
     plan: &Plan<'_>,

@@ -20,10 +20,10 @@ pub mod files;
 pub mod job;
 pub mod plan;
 pub mod product;
+pub mod runs;
 pub mod statuses;
 pub mod sure_ports;
 pub mod telling;
-pub mod traced_run;
 
 use crate::commands::read_command;
 pub use crate::files::FILE_LIMIT;

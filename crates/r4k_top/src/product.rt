@@ -9,12 +9,13 @@ ghost use Rattle.r4k_top.specs.Wanted.{puts_to};
 ghost use Rattle.machine_core.specs.Traced.{machine_in};
 ghost use Rattle.r4k_top.specs.Outcome.{file_name, named_file, summary_by};
 ghost use Rattle.r4k_top.specs.Clauses.{HasPut, PutRose, OthersStay};
-ghost use Rattle.r4k_top.specs.EndShown.{out_shown, file_shown, finished_shown, traced_shown, made_shown, RunWillBeFlat};
+ghost use Rattle.r4k_top.specs.EndShown.{out_shown, file_shown, finished_shown, machine_shown, checked_shown};
+ghost use Rattle.r4k_top.specs.EndShown.{untraced_shown, traced_shown, made_shown, UntracedWillBeFlat, RunWillBeFlat};
 ghost use Rattle.r4k_top.specs.Making.{IsLate, Placed, Delivered};
 
 use crate::files::ImageFile;
+use crate::runs::{BenchRun, MachineRun, Untraced};
 use crate::statuses::Status;
-use crate::traced_run::TracedRun;
 use access_trace::Verdict;
 use flat_bridge::Bench;
 use image_listing::write_listing;
@@ -62,8 +63,10 @@ pub enum Finished<'a> {
 pub enum Product<'a> {
     /// What is made already.
     Finished(Finished<'a>),
+    /// A run that is made before its text is written, and the name under which its disk is put then, where there is one.
+    Untraced { run: Untraced, out: Option<String> },
     /// A run that is made while its trace is written, and the name under which its disk is put then, where there is one.
-    Traced { run: TracedRun, out: Option<String> },
+    Traced { run: BenchRun, out: Option<String> },
 }
 
 // What is told of the run of a load.
@@ -203,9 +206,55 @@ fn deliver_finished<F: Shelf, K: Sink>(
     }
 }
 
+// Makes the run of a machine, for its report.
+fn run_machine<'a>(run: MachineRun, out: Option<String>) -> Finished<'a>
+    ensures finished { finished_shown result ≡ machine_shown (out_shown out) run.steps run.machine }
+{
+    let MachineRun { mut machine, steps } = run;
+    let _ = machine.run(steps);
+    Finished::Report { machine, out }
+}
+
+// Makes the run of a bench, for its report and the verdict.
+fn run_bench<'a>(run: BenchRun, out: Option<String>) -> Finished<'a>
+    ensures finished { finished_shown result ≡ checked_shown (out_shown out) run.steps run.bench }
+    ensures flat { RunWasFlat run.steps run.bench }
+{
+    let BenchRun { mut bench, steps } = run;
+    bench.run(steps);
+    Finished::Checked { bench, out }
+}
+
+// Makes a run of which no trace is written.
+fn run_untraced<'a>(run: Untraced, out: Option<String>) -> Finished<'a>
+    ensures finished { finished_shown result ≡ untraced_shown (out_shown out) run.entry }
+    ensures flat { UntracedWillBeFlat run.entry }
+{
+    match run {
+        Untraced::Machine(run) => run_machine(run, out),
+        Untraced::Bench(run) => run_bench(run, out),
+    }
+}
+
+// Makes a run, and then writes and puts what comes of it.
+fn deliver_untraced<F: Shelf, K: Sink>(
+    run: Untraced,
+    name: Option<String>,
+    shelf: &mut F,
+    out: &mut K,
+) -> Status
+    ensures delivered { Delivered F.held F.asked F.put_faults shelf.old shelf.new (K.written out.old) (K.written out.new)
+        (K.is_flushed out.new) (K.faults out.old) (K.faults out.new)
+        (untraced_shown (out_shown name) run) result }
+    ensures flat { UntracedWillBeFlat run }
+{
+    let finished = run_untraced(run, name);
+    deliver_finished(&finished, shelf, out)
+}
+
 // Makes a run while its trace is written, and then writes and puts the rest.
 fn deliver_traced<F: Shelf, K: Sink>(
-    run: TracedRun,
+    run: BenchRun,
     name: Option<String>,
     shelf: &mut F,
     out: &mut K,
@@ -215,7 +264,7 @@ fn deliver_traced<F: Shelf, K: Sink>(
         (traced_shown (out_shown name) run.steps run.bench) result }
     ensures flat { IsComplete result → RunWasFlat run.steps run.bench }
 {
-    let TracedRun { mut bench, steps } = run;
+    let BenchRun { mut bench, steps } = run;
     match bench.write_traced(steps, out) {
         Ok(()) => place(&Finished::Checked { bench, out: name }, shelf),
         Err(_) => Status::WriteFault,
@@ -233,6 +282,7 @@ pub fn deliver<F: Shelf, K: Sink>(product: Product<'_>, shelf: &mut F, out: &mut
 {
     match product {
         Product::Finished(finished) => deliver_finished(&finished, shelf, out),
+        Product::Untraced { run, out: name } => deliver_untraced(run, name, shelf, out),
         Product::Traced { run, out: name } => deliver_traced(run, name, shelf, out),
     }
 }
