@@ -54,3 +54,23 @@ PlanIsFlatOver prom plan (Some files) =
 abbrev pub YesIsFlat : Option Command → Option Files → Type 0
 YesIsFlat (Some (Run plan)) held = PlanIsFlatOver boot_prom plan held
 YesIsFlat _ held = Unit {0}
+
+-- WHAT DONE PROMISES
+
+-- after Done a run is that of the flat machine, where a verdict on it is told
+abbrev pub DoneTold : Telling → ℕ → MachineState → Flat → Type 0
+DoneTold telling.Report steps machine flat = Unit {0}
+DoneTold telling.Verdict steps machine flat = RunIsFlat steps machine flat
+DoneTold telling.Trace steps machine flat = RunIsFlat steps machine flat
+
+-- for the run of a plan from reset, with a PROM, over the bytes of its image and of its disk, by what its script says
+abbrev pub PlanRanFlat : Prom → Plan → List ℕ → List ℕ → script.ScriptText → Type 0
+PlanRanFlat prom plan image disk (script.Inputs inputs) =
+    DoneTold plan.telling plan.steps (reset_of plan.shape prom image disk inputs) (flat_reset_of plan.shape prom image disk inputs)
+PlanRanFlat prom plan image disk (script.Bad line reason) = Unit {0}
+
+-- what Done promises of a run, over the files that are held, where they are told; the other commands run nothing
+abbrev pub DoneIsFlat : Option Command → Option Files → Type 0
+DoneIsFlat (Some (Run plan)) (Some files) =
+    PlanRanFlat boot_prom plan (file_of files plan.image) (bytes_given (file_of files) plan.disk) (script_given (file_of files) plan.script)
+DoneIsFlat _ held = Unit {0}

@@ -13,7 +13,7 @@ ghost use Rattle.r4k_top.specs.Wanted.{fetches_of, calls_of};
 ghost use Rattle.r4k_top.specs.Answers.{MayAnswer, IsComplete, IsEarly, IsRefusal, PutsNothing};
 ghost use Rattle.r4k_top.specs.Clauses.{ComesTo, EndsWith, Written, WrittenPrefix, FilePut, PutRose, OthersStay};
 ghost use Rattle.r4k_top.specs.Clauses.{AskedPrefix, AskedUpTo, WriteFailed, PutFailed};
-ghost use Rattle.r4k_top.specs.FlatRuns.{YesIsFlat};
+ghost use Rattle.r4k_top.specs.FlatRuns.{DoneIsFlat};
 
 pub mod commands;
 pub mod files;
@@ -89,8 +89,8 @@ pub fn workstation<F: Shelf, K: Sink>(
     ensures asked_all { IsComplete result →
         Appended (F.asked shelf.old) (F.asked shelf.new) (calls_of (command_of words.now)) }
 
-    // After `check` and `trace`: where the verdict is yes, the run is that of the flat machine without caches.
-    ensures flat { IsComplete result → YesIsFlat (command_of words.now) (F.held shelf.old) }
+    // After Done of `check` and `trace` the run is that of the flat machine without caches.
+    ensures flat { result ≡ Status.Done → DoneIsFlat (command_of words.now) (F.held shelf.old) }
 {
     let Some(command) = read_command(words) else {
         return Status::Usage;

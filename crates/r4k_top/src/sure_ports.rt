@@ -4,7 +4,7 @@ ghost use Rattle.std.specs.Prelude.{◌≡◌};
 ghost use Rattle.r4k_top.specs.Answers.{IsComplete, MayAnswer};
 ghost use Rattle.r4k_top.specs.Clauses.{ComesTo, EndsWith, Written};
 ghost use Rattle.r4k_top.specs.Command.{command_of};
-ghost use Rattle.r4k_top.specs.FlatRuns.{YesIsFlat};
+ghost use Rattle.r4k_top.specs.FlatRuns.{DoneIsFlat};
 
 use crate::statuses::Status;
 use crate::workstation;
@@ -22,7 +22,7 @@ pub fn over_sure_ports(
     ensures answer { MayAnswer ⊥ ⊥ (EndsWith (command_of words.now) shelf.old) result }
     ensures done { IsComplete result →
         ComesTo (command_of words.now) shelf.old (Written out.old.written out.new.written) }
-    ensures flat { IsComplete result → YesIsFlat (command_of words.now) shelf.old }
+    ensures flat { result ≡ Status.Done → DoneIsFlat (command_of words.now) shelf.old }
 {
     workstation(alloc, words, shelf, out)
 }

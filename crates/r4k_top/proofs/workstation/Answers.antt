@@ -1,7 +1,8 @@
 -- The clauses on what the words come to and on the calls of the shelf, from what is made and how it is delivered.
-use Rattle.std.proofs.Common.{refl}
+use Rattle.std.proofs.Common.{refl, sym, subst, ◌∙◌}
 use Rattle.r4k_top.proofs.Headline.{usage_ends, usage_asked, delivered_calls, stopped_calls, all_asked, failed_delivery, nothing_put, delivered_answer, delivered_text, delivered_file}
 use Rattle.r4k_top.proofs.FlatEnds.{said_flat}
+use Rattle.r4k_top.specs.Answers.{IsComplete}
 use Rattle.r4k_top.proofs.workstation.Goals as goal
 
 pub returns-in_default-clause-answer : goal.returns-in_default-clause-answer
@@ -42,4 +43,7 @@ returns-in-Ok-clause-done_put g c = λ is.
     delivered_file _ _ _ _ _ _ _ _ c.in-Some.ensures.some c.in-Ok.ensures.made c.make.ensures.held (c.deliver.ensures.delivered.put is)
 
 pub returns-in-Ok-clause-flat : goal.returns-in-Ok-clause-flat
-returns-in-Ok-clause-flat g c = λ is. said_flat _ _ _ c.in-Some.ensures.some (c.in-Ok.ensures.flat (c.deliver.ensures.flat is))
+returns-in-Ok-clause-flat g c = λ is.
+    let complete : IsComplete c.deliver.result = subst IsComplete (sym is) tt in
+    said_flat _ _ _ _ _ _ c.in-Some.ensures.some c.in-Ok.ensures.made (sym is ∙ c.deliver.ensures.delivered.verdict complete)
+    (c.in-Ok.ensures.flat (c.deliver.ensures.flat complete))
