@@ -1,5 +1,5 @@
 -- The answers of the top call: which one belongs to an end, and which of them are free.
-use Rattle.std.specs.Prelude.{List, ℕ, Option, Some, None}
+use Rattle.std.specs.Prelude.{Option, Some, None}
 use Rattle.r4k_top.specs.declared.statuses.Status.{Status}
 use Rattle.r4k_top.specs.declared.statuses.Status.TheVariants as status
 use Rattle.access_trace.specs.declared.event.Verdict.{Verdict}
@@ -49,15 +49,3 @@ IsRefusal status.ReadFault = ⊥
 IsRefusal status.WriteFault = ⊥
 IsRefusal status.Memory = ⊥
 IsRefusal answer = Unit {0}
-
--- the answers that come before anything is written or put
-abbrev pub IsEarly : Status → Type 0
-IsEarly status.Done = ⊥
-IsEarly (status.Breach event breach) = ⊥
-IsEarly status.WriteFault = ⊥
-IsEarly answer = Unit {0}
-
--- nothing is put: always where no name is put to, and else with the answers that come before
-abbrev pub PutsNothing : Option (List ℕ) → Status → Type 0
-PutsNothing None status = Unit {0}
-PutsNothing (Some name) status = IsEarly status

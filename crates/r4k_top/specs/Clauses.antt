@@ -1,12 +1,11 @@
--- What stands after each answer of the top call. Where the shelf does not tell what it holds, nothing is said of what the
--- words come to; where the sink does not tell what was written, nothing of the text. A name that a told shelf lacks is an
--- empty file.
-use Rattle.std.specs.Prelude.{◌≡◌, ◌≢◌, ℕ, Bool, true, List, ◌++◌, Option, Some, None}
+-- What the table of answers is made of: what the words come to, what was written and put, and the calls of the shelf. Where the
+-- shelf does not tell what it holds, nothing is said of what the words come to; where the sink does not tell what was written,
+-- nothing of the text. A name that a told shelf lacks is an empty file.
+use Rattle.std.specs.Prelude.{◌≡◌, ◌≢◌, ℕ, List, ◌++◌, Option, Some, None}
 use Rattle.std.specs.FinMap.{get}
 use Rattle.r4_ports.specs.Told.{Files, Call, file_of, Appended, AppendedPrefix, PutInto, Rose}
 use Rattle.r4k_top.specs.declared.statuses.Status.{Status}
-use Rattle.r4k_top.specs.Command.{Command, out_name}
-use Rattle.r4k_top.specs.Wanted.{fetches_of, calls_of}
+use Rattle.r4k_top.specs.Command.{Command}
 use Rattle.r4k_top.specs.Outcome.{File, Made, End, Makes, Refuses, Outcome, outcome_of}
 use Rattle.r4k_top.specs.Answers.{status_of}
 
@@ -73,20 +72,3 @@ pub record AskedPrefix (before now : Option (List Call)) (calls : List Call) : T
 -- the calls are the fetches of what the words come to: up to the file that is refused, and no more
 abbrev pub AskedUpTo : Option Command → Option Files → Option (List Call) → Option (List Call) → Type 0
 AskedUpTo said held before now = ComesTo said held (λ outcome. Appended before now outcome.fetches)
-
--- a write or the flush failed: the sink's count of faults rose, and no put was tried: the calls are the fetches, and neither
--- the files nor the count of failed puts changed
-pub record WriteFailed (said : Option Command) (faults_before faults : ℕ) (asked_before asked : Option (List Call))
-    (held_before held : Option Files) (puts_before puts : ℕ) : Type 0 where
-  pub rose : Rose faults_before faults
-  pub calls : Appended asked_before asked (fetches_of said)
-  pub files : held ≡ held_before
-  pub no_put : puts ≡ puts_before
-
--- the put failed, the last of all calls, after the whole text had been written and had gone out
-pub record PutFailed (said : Option Command) (held : Option Files) (text_before text_now : Option (List ℕ))
-    (is_flushed : Bool) (asked_before asked : Option (List Call)) (before now : ℕ) : Type 0 where
-  pub text : ComesTo said held (Written text_before text_now)
-  pub flushed : is_flushed ≡ true
-  pub calls : Appended asked_before asked (calls_of said)
-  pub rose : PutRose (out_name said) before now

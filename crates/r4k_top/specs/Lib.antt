@@ -6,5 +6,6 @@ pub mod EndShown
 pub mod StatusText
 pub mod Answers
 pub mod Clauses
+pub mod Stands
 pub mod Making
 pub mod FlatRuns

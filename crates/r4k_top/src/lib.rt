@@ -3,16 +3,16 @@
 //! Reading order: `plan` is what a run is made by; `commands` reads the words; `files` has a reader for each kind of file;
 //! `job` makes what a command asks for; `product` is what is made, and its way out; `statuses` says how the program ended, in
 //! numbers and lines. `workstation` is the call; its clauses say when each answer comes and what stands after it, by the
-//! definitions of `specs/Command.antt`, `specs/Wanted.antt`, `specs/Outcome.antt` and, for what a yes promises, `specs/FlatRuns.antt`.
+//! definitions of `specs/Command.antt`, `specs/Wanted.antt`, `specs/Outcome.antt`, `specs/Stands.antt` and, for what Done promises of a
+//! run, `specs/FlatRuns.antt`.
 #![tactic(auto)]
 
-ghost use Rattle.std.specs.Prelude.{◌≡◌, ◌⊎◌, true, IsNone, ◌↔◌};
-ghost use Rattle.r4_ports.specs.Told.{Rose, Appended};
+ghost use Rattle.std.specs.Prelude.{◌≡◌, ◌⊎◌, IsNone, ◌↔◌};
+ghost use Rattle.r4_ports.specs.Told.{Rose};
 ghost use Rattle.r4k_top.specs.Command.{command_of, out_name};
-ghost use Rattle.r4k_top.specs.Wanted.{fetches_of, calls_of};
-ghost use Rattle.r4k_top.specs.Answers.{MayAnswer, IsComplete, IsEarly, IsRefusal, PutsNothing};
-ghost use Rattle.r4k_top.specs.Clauses.{ComesTo, EndsWith, Written, WrittenPrefix, FilePut, PutRose, OthersStay};
-ghost use Rattle.r4k_top.specs.Clauses.{AskedPrefix, AskedUpTo, WriteFailed, PutFailed};
+ghost use Rattle.r4k_top.specs.Answers.{MayAnswer};
+ghost use Rattle.r4k_top.specs.Clauses.{EndsWith, PutRose};
+ghost use Rattle.r4k_top.specs.Stands.{Stands, ports_of, outside};
 ghost use Rattle.r4k_top.specs.FlatRuns.{DoneIsFlat};
 
 pub mod commands;
@@ -53,41 +53,10 @@ pub fn workstation<F: Shelf, K: Sink>(
         ⊎ PutRose (out_name (command_of words.now)) (F.put_faults shelf.old) (F.put_faults shelf.new))
         (EndsWith (command_of words.now) (F.held shelf.old)) result }
 
-    // Done, and Breach where the verdict is no, come after all that is made was written, has gone out, and was put. WriteFault
-    // comes after a prefix of the text: a write or the flush failed, and no put was tried; or the put failed, after the whole text
-    // has gone out.
-    ensures done { IsComplete result →
-        ComesTo (command_of words.now) (F.held shelf.old) (Written (K.written out.old) (K.written out.new)) }
-    ensures done_flushed { IsComplete result → K.is_flushed out.new ≡ true }
-    ensures done_put { IsComplete result →
-        ComesTo (command_of words.now) (F.held shelf.old) (FilePut (F.held shelf.old) (F.held shelf.new)) }
-    ensures written_prefix { result ≡ Status.WriteFault →
-        ComesTo (command_of words.now) (F.held shelf.old) (WrittenPrefix (K.written out.old) (K.written out.new)) }
-    ensures write_fault { result ≡ Status.WriteFault →
-        WriteFailed (command_of words.now) (K.faults out.old) (K.faults out.new) (F.asked shelf.old) (F.asked shelf.new)
-        (F.held shelf.old) (F.held shelf.new) (F.put_faults shelf.old) (F.put_faults shelf.new)
-        ⊎ PutFailed (command_of words.now) (F.held shelf.old) (K.written out.old) (K.written out.new)
-        (K.is_flushed out.new) (F.asked shelf.old) (F.asked shelf.new) (F.put_faults shelf.old) (F.put_faults shelf.new) }
-
-    // Every other answer leaves the sink as it was, Usage the shelf too, and nothing is put then, nor ever under another
-    // name than the command's own.
-    ensures sink_stays { IsEarly result → out.new ≡ out.old }
-    ensures shelf_stays { result ≡ Status.Usage → shelf.new ≡ shelf.old }
-    ensures files_stay { PutsNothing (out_name (command_of words.now)) result →
-        F.held shelf.new ≡ F.held shelf.old }
-    ensures no_put { PutsNothing (out_name (command_of words.now)) result →
-        F.put_faults shelf.new ≡ F.put_faults shelf.old }
-    ensures others_stay { OthersStay (out_name (command_of words.now)) (F.held shelf.old) (F.held shelf.new) }
-
-    // The shelf is asked for the command's fetches and then its put, in their order: for fetches alone before the answers
-    // that come early, up to the refused file before a refusal, and for all before the job is complete.
-    ensures asked { AskedPrefix (F.asked shelf.old) (F.asked shelf.new) (calls_of (command_of words.now)) }
-    ensures asked_early { IsEarly result →
-        AskedPrefix (F.asked shelf.old) (F.asked shelf.new) (fetches_of (command_of words.now)) }
-    ensures asked_up_to { IsRefusal result →
-        AskedUpTo (command_of words.now) (F.held shelf.old) (F.asked shelf.old) (F.asked shelf.new) }
-    ensures asked_all { IsComplete result →
-        Appended (F.asked shelf.old) (F.asked shelf.new) (calls_of (command_of words.now)) }
+    // What stands after it is one row of a table by the answer: nothing is touched, nothing is made, a file is refused, all is made, or a
+    // write or the put has failed.
+    ensures stands { Stands (ports_of F.held F.asked F.put_faults K.written K.is_flushed K.faults) (command_of words.now)
+        (outside shelf.old out.old) (outside shelf.new out.new) result }
 
     // After Done of `check` and `trace` the run is that of the flat machine without caches.
     ensures flat { result ≡ Status.Done → DoneIsFlat (command_of words.now) (F.held shelf.old) }
