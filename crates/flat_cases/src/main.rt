@@ -5,8 +5,8 @@
 //! same text as `stdin`: a case says in itself what must come, and a further case is a line and no code. An argument that
 //! is none, or a verb that there is not, is answered by a question mark.
 //!
-//! `setting` has the verbs that say what the next machine is made of, and makes it; `moving` those that move the machine on; and
-//! `showing` those that show its state. `arguments` reads the parts of a case.
+//! `setting` has the verbs that say what the next machine is made of, and makes it; `moving` those that move the flat machine on, and
+//! `stepping` the machine with caches; and `showing` those that show their states. `arguments` reads the parts of a case.
 //!
 //! `beside SHAPE STEPS SOURCE` makes the machine with caches and the flat machine of the image of a source, and runs each for at most so
 //! many ticks. The answer is the verdict on the first, `yes` or `no EVENT RULE`, and then `same` or `differs`: whether both show the
@@ -18,6 +18,7 @@ mod beside;
 mod moving;
 mod setting;
 mod showing;
+mod stepping;
 
 use crate::beside::{Pair, pair_of, put_compared};
 use crate::setting::Setting;
@@ -66,6 +67,7 @@ fn put_answer(
     let is_known = setting::put_answer(alloc, &mut stage.setting, verb, arguments, out)?
         || setting::put_made(alloc, &stage.setting, &mut stage.flat, verb, arguments, out)?
         || moving::put_answer(&mut stage.flat, verb, arguments, out)?
+        || stepping::put_answer(&mut stage.bench, verb, arguments, out)?
         || showing::put_answer(&stage.flat, &stage.bench, verb, arguments, out)?;
     if is_known { Ok(()) } else { out.push_str("?") }
 }

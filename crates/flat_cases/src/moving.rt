@@ -1,4 +1,4 @@
-//! The verbs that move the machine on.
+//! The verbs that move the flat machine on.
 //!
 //! - `tick COUNT` makes so many ticks, also past a halt, and tells the answer of the last.
 //! - `run COUNT` makes up to so many ticks, and tells how the run ended.
@@ -68,7 +68,8 @@ fn run(flat: &mut Flat, count: u32) -> Option<Tick> {
     Some(flat.run(count.min(1000000)))
 }
 
-fn put_end(end: Option<Tick>, out: &mut String) -> Result<(), AllocError> {
+/// Appends the answer of a tick, or of a run.
+pub fn put_end(end: Option<Tick>, out: &mut String) -> Result<(), AllocError> {
     match end {
         Some(Tick::Ran) => out.push_str("ran"),
         Some(Tick::Trapped(code)) => write!(out, "trapped {code}"),
