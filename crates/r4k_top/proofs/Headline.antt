@@ -1,5 +1,5 @@
 -- The clauses of the top call, from what its calls ensure.
-use Rattle.std.proofs.Common.{◌≡◌, ℕ, Bool, ◌⊎◌, ◌×◌, List, [], ◌++◌, Option, Some, None, IsNone, refl, sym, ap, subst, ◌∙◌, inl, inr}
+use Rattle.std.proofs.Common.{◌≡◌, ℕ, Bool, ◌⊎◌, List, [], ◌++◌, Option, Some, None, IsNone, refl, sym, ap, subst, ◌∙◌, inl, inr}
 use Rattle.r4_ports.specs.Told.{Files, Call, Rose, Appended, AppendedPrefix}
 use Rattle.r4k_top.specs.declared.statuses.Status.{Status}
 use Rattle.r4k_top.specs.declared.statuses.Status.TheVariants.{Done, Breach, Usage, ReadFault, WriteFault, BadImage, BadScript, BadSource, Memory, BadTrace, TooLong}

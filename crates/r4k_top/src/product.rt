@@ -227,8 +227,8 @@ fn run_bench<'a>(run: BenchRun, out: Option<String>) -> Finished<'a>
 
 // Makes a run of which no trace is written.
 fn run_untraced<'a>(run: Untraced, out: Option<String>) -> Finished<'a>
-    ensures finished { finished_shown result ≡ untraced_shown (out_shown out) run.entry }
-    ensures flat { UntracedWillBeFlat run.entry }
+    ensures finished { finished_shown result ≡ untraced_shown (out_shown out) run }
+    ensures flat { UntracedWillBeFlat run }
 {
     match run {
         Untraced::Machine(run) => run_machine(run, out),
