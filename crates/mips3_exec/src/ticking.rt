@@ -1,6 +1,6 @@
 //! The tick and the run over any memory system.
 
-ghost use Rattle.std.specs.Prelude.{◌≡◌, ℕ, ◌<◌, ◌+◌, ◌^◌, Some, true};
+ghost use Rattle.std.specs.Prelude.{◌≡◌, ℕ, ◌<◌, ◌+◌, ◌^◌, Some, None, true};
 ghost use Rattle.mips3_exec.specs.declared.talk.Request.TheVariants.{Levels};
 ghost use Rattle.mips3_exec.specs.declared.ticking.Tick.TheVariants.{Halted};
 ghost use Rattle.mips3_exec.specs.Run.{run_of};
@@ -28,8 +28,9 @@ fn ask_levels<M: MemorySystem>(cpu: &mut Cpu, memory: &mut M)
     ensures memory { memory.new ≡ (M.ask_gives memory.old Request.Levels).memory }
     ensures ticks { cpu.new.ticks ≡ cpu.old.ticks }
 {
-    if let Reply::Levels(levels) = memory.ask(Request::Levels) {
-        cpu.cp0.lines(levels);
+    match memory.ask(Request::Levels) {
+        Reply::Levels(levels) => cpu.cp0.lines(levels),
+        _ => unreachable!(),
     }
 }
 
@@ -85,7 +86,7 @@ fn talk<M: MemorySystem>(cpu: &mut Cpu, memory: &mut M) -> StepEnd
 #[inline(always)]
 #[tactic(auto, unfolding(crate::specs::Tick::tick_of))]
 pub fn make_tick<M: MemorySystem>(cpu: &mut Cpu, memory: &mut M) -> Tick
-    requires { cpu.old.ticks < 4294967295 }
+    requires ticks { cpu.old.halt ≡ None → cpu.old.ticks < 4294967295 }
     ensures answer { result ≡ (law.tick_of M.ask_gives memory.old cpu.old).answer }
     ensures cpu { cpu.new ≡ (law.tick_of M.ask_gives memory.old cpu.old).cpu }
     ensures memory { memory.new ≡ (law.tick_of M.ask_gives memory.old cpu.old).memory }
