@@ -295,10 +295,15 @@ module _ (value : ℕ) where
   unfolding tick_talk
   talk_fixed cpu fixed = then_fixed (opened cpu) closed closed_fixed (λ inputs beat levels. step_fixed (with_levels cpu levels) (levels_fixed cpu fixed levels))
 
+  -- the talk of a tick keeps what is fixed
+  pub held_talk_fixed : {M : Type 0} (ask : M → Request → Outcome M) (memory : M) (cpu : Cpu) → HasFixed value cpu
+      → HasFixed value (hold ask memory (tick_talk cpu)).cpu
+  held_talk_fixed ask memory cpu fixed = held_fixed ask memory (tick_talk cpu) (talk_fixed cpu fixed)
+
   ticked_fixed : {M : Type 0} (ask : M → Request → Outcome M) (memory : M) (cpu : Cpu) → HasFixed value cpu → (halt : Option ℕ)
       → HasFixed value (unless_halted ask memory cpu halt).cpu
   ticked_fixed ask memory cpu fixed (Some code) = fixed
-  ticked_fixed ask memory cpu fixed None = held_fixed ask memory (tick_talk cpu) (talk_fixed cpu fixed)
+  ticked_fixed ask memory cpu fixed None = held_talk_fixed ask memory cpu fixed
 
   -- a tick keeps what is fixed
   pub tick_fixed : {M : Type 0} (ask : M → Request → Outcome M) (memory : M) (cpu : Cpu) → HasFixed value cpu → HasFixed value (tick_of ask memory cpu).cpu

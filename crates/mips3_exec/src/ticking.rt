@@ -3,6 +3,7 @@
 ghost use Rattle.std.specs.Prelude.{◌≡◌, ℕ, ◌<◌, ◌+◌, ◌^◌, Some, None, true};
 ghost use Rattle.mips3_exec.specs.declared.talk.Request.TheVariants.{Levels};
 ghost use Rattle.mips3_exec.specs.declared.ticking.Tick.TheVariants.{Halted};
+ghost use Rattle.mips3_exec.specs.Fixed.{HasFixed};
 ghost use Rattle.mips3_exec.specs.Run.{run_of};
 ghost use Rattle.mips3_exec.specs.Talk.{hold};
 ghost use Rattle.mips3_exec.specs.Tick as law;
@@ -76,6 +77,7 @@ fn talk<M: MemorySystem>(cpu: &mut Cpu, memory: &mut M) -> StepEnd
     ensures cpu { cpu.new ≡ (hold M.ask_gives memory.old (law.tick_talk cpu.old)).cpu }
     ensures memory { memory.new ≡ (hold M.ask_gives memory.old (law.tick_talk cpu.old)).memory }
     ensures ticks { cpu.new.ticks ≡ cpu.old.ticks + 1 }
+    ensures fixed { (config : ℕ) → HasFixed config cpu.old → HasFixed config cpu.new }
 {
     let end = open(cpu, memory);
     close(cpu, memory, end);
@@ -93,6 +95,7 @@ pub fn make_tick<M: MemorySystem>(cpu: &mut Cpu, memory: &mut M) -> Tick
     ensures ticks { law.goes_on result ≡ true → cpu.new.ticks ≡ cpu.old.ticks + 1 }
     ensures stands_still { (code : ℕ) → cpu.old.halt ≡ Some code →
         (cpu.new ≡ cpu.old) × (memory.new ≡ memory.old) × (result ≡ Tick.Halted code) }
+    ensures fixed { (config : ℕ) → HasFixed config cpu.old → HasFixed config cpu.new }
 {
     if let Some(code) = cpu.halt {
         return Tick::Halted(code);
@@ -112,6 +115,7 @@ pub fn make_run<M: MemorySystem>(cpu: &mut Cpu, memory: &mut M, steps: u32) -> T
     ensures answer { result ≡ (run_of M.ask_gives steps (record { cpu = cpu.old; memory = memory.old })).answer }
     ensures cpu { cpu.new ≡ (run_of M.ask_gives steps (record { cpu = cpu.old; memory = memory.old })).cpu }
     ensures memory { memory.new ≡ (run_of M.ask_gives steps (record { cpu = cpu.old; memory = memory.old })).memory }
+    ensures fixed { (config : ℕ) → HasFixed config cpu.old → HasFixed config cpu.new }
 {
     for step in 0..steps {
         match make_tick(cpu, memory) {
