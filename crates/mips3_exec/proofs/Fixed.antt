@@ -291,11 +291,23 @@ module _ (value : ℕ) where
       let shown : Cpu = with_levels cpu levels in
       of_parts shown _ refl (kept.counted_keeps shown.cp0 _) (levels_fixed cpu fixed levels)
 
+  opened_fixed : (cpu : Cpu) → HasFixed value cpu → KeepsTalk (opened cpu)
+  opened_fixed cpu fixed inputs beat levels = step_fixed (with_levels cpu levels) (levels_fixed cpu fixed levels)
+
   talk_fixed : (cpu : Cpu) → HasFixed value cpu → KeepsTalk (tick_talk cpu)
   unfolding tick_talk
-  talk_fixed cpu fixed = then_fixed (opened cpu) closed closed_fixed (λ inputs beat levels. step_fixed (with_levels cpu levels) (levels_fixed cpu fixed levels))
+  talk_fixed cpu fixed = then_fixed (opened cpu) closed closed_fixed (opened_fixed cpu fixed)
 
-  -- the talk of a tick keeps what is fixed
+  -- the parts of a tick keep what is fixed
+  pub held_opened_fixed : {M : Type 0} (ask : M → Request → Outcome M) (memory : M) (cpu : Cpu) → HasFixed value cpu
+      → HasFixed value (hold ask memory (opened cpu)).cpu
+  held_opened_fixed ask memory cpu fixed = held_fixed ask memory (opened cpu) (opened_fixed cpu fixed)
+
+  pub held_closed_fixed : {M : Type 0} (ask : M → Request → Outcome M) (memory : M) (cpu : Cpu) (end : StepEnd) → HasFixed value cpu
+      → HasFixed value (hold ask memory (closed cpu end)).cpu
+  held_closed_fixed ask memory cpu end fixed = held_fixed ask memory (closed cpu end) (closed_fixed cpu end fixed)
+
+  -- and so does the talk of a tick
   pub held_talk_fixed : {M : Type 0} (ask : M → Request → Outcome M) (memory : M) (cpu : Cpu) → HasFixed value cpu
       → HasFixed value (hold ask memory (tick_talk cpu)).cpu
   held_talk_fixed ask memory cpu fixed = held_fixed ask memory (tick_talk cpu) (talk_fixed cpu fixed)
