@@ -1,10 +1,8 @@
--- What is known of the places that accesses reach, and of the replies to them.
-use Rattle.std.specs.Prelude.{ℕ, ◌<◌, ◌≤◌, ◌+◌, ◌^◌}
+-- What is known of the places that accesses reach.
+use Rattle.std.specs.Prelude.{ℕ, ◌<◌, ◌≤◌, ◌+◌}
 use Rattle.flat_ram.specs.Map.{ram_size, prom_base, prom_size, device_base, device_size}
 use Rattle.flat_ram.specs.declared.map.Spot.{Spot}
 use Rattle.flat_ram.specs.declared.map.Spot.TheVariants.{Ram, Prom, Device, Empty}
-use Rattle.mips3_exec.specs.declared.talk.Reply.{Reply}
-use Rattle.mips3_exec.specs.declared.talk.Reply.TheVariants.{Value}
 
 -- the address lies in the range of what stands there
 abbrev pub IsPlaceIn : Spot → ℕ → Type 0
@@ -12,8 +10,3 @@ IsPlaceIn Ram pa = pa < ram_size
 IsPlaceIn Prom pa = (prom_base ≤ pa) × (pa < prom_base + prom_size)
 IsPlaceIn Device pa = (device_base ≤ pa) × (pa < device_base + device_size)
 IsPlaceIn Empty pa = Unit {0}
-
--- a value that is replied fits in the bytes that were asked for
-abbrev pub IsValueOf : ℕ → Reply → Type 0
-IsValueOf size (Value value) = value < 256 ^ size
-IsValueOf size _ = Unit {0}

@@ -3,8 +3,8 @@
 ghost use Rattle.std.specs.Prelude.{◌≡◌, ◌≤◌, ◌<◌, ◌+◌, ◌%◌, ◌^◌};
 ghost use Rattle.flat_ram.specs.Map.{ram_size, spot_of};
 ghost use Rattle.flat_machine.specs.FlatMemory as law;
-ghost use Rattle.flat_machine.specs.Ranges.{IsPlaceIn, IsValueOf};
-ghost use Rattle.mips3_exec.specs.Talk.{IsAsked, IsAnswer};
+ghost use Rattle.flat_machine.specs.Ranges.{IsPlaceIn};
+ghost use Rattle.mips3_exec.specs.Talk.{IsAsked, IsAnswer, IsBeatReply, IsReadReply, IsStoreReply};
 
 use dma_devices::{Beat, RecordedDevices, Wrote};
 use flat_ram::{DEVICE_BASE, PROM_BASE, Prom, Ram, Spot, where_is};
@@ -40,6 +40,7 @@ fn is_word(pa: u64, size: u8) -> bool
 // The reply to a beat that was due.
 fn beat_reply(beat: Option<Beat>) -> Reply
     ensures reply { result ≡ law.beat_reply beat }
+    ensures answer { IsBeatReply result }
 {
     match beat {
         Some(beat) => Reply::Moved {
@@ -53,7 +54,7 @@ fn beat_reply(beat: Option<Beat>) -> Reply
 // The reply to a read of a register.
 fn word_reply(word: Option<u32>) -> Reply
     ensures reply { result ≡ law.word_reply word }
-    ensures value { IsValueOf 4 result }
+    ensures answer { IsReadReply (2 ^ 32) result }
 {
     match word {
         Some(word) => Reply::Value(u64::from(word)),
@@ -64,6 +65,7 @@ fn word_reply(word: Option<u32>) -> Reply
 // The reply to a write of a register.
 fn wrote_reply(wrote: Option<Wrote>) -> Reply
     ensures reply { result ≡ law.wrote_reply wrote }
+    ensures answer { IsStoreReply result }
 {
     match wrote {
         Some(Wrote::Plain) => Reply::Stored,
@@ -81,7 +83,7 @@ impl FlatMemory {
         requires place { IsPlaceIn spot pa }
         requires aligned { pa % 4 ≡ 0 }
         ensures reply { result ≡ law.fetched_from self.now pa spot }
-        ensures value { IsValueOf 4 result }
+        ensures answer { IsReadReply (2 ^ 32) result }
     {
         match spot {
             Spot::Ram => Reply::Value(self.ram.number(pa, 4)),
@@ -95,7 +97,7 @@ impl FlatMemory {
         requires { offset < 4096 }
         ensures memory { self.new ≡ (law.register_read self.old (read_at self.old.devices.devices offset)).memory }
         ensures reply { result ≡ (law.register_read self.old (read_at self.old.devices.devices offset)).reply }
-        ensures value { IsValueOf 4 result }
+        ensures answer { IsReadReply (2 ^ 32) result }
     {
         word_reply(self.devices.read(offset as u32))
     }
@@ -107,7 +109,7 @@ impl FlatMemory {
         requires within { pa % 8 + size ≤ 8 }
         ensures memory { self.new ≡ (law.loaded_from self.old pa size spot).memory }
         ensures reply { result ≡ (law.loaded_from self.old pa size spot).reply }
-        ensures value { IsValueOf size result }
+        ensures answer { IsReadReply (256 ^ size) result }
     {
         match spot {
             Spot::Ram => Reply::Value(self.ram.number(pa, size)),
@@ -122,6 +124,7 @@ impl FlatMemory {
         requires { offset < 4096 }
         ensures memory { self.new ≡ (law.register_written self.old (write_at self.old.devices.devices offset value)).memory }
         ensures reply { result ≡ (law.register_written self.old (write_at self.old.devices.devices offset value)).reply }
+        ensures answer { IsStoreReply result }
     {
         wrote_reply(self.devices.write(offset as u32, value))
     }
@@ -133,6 +136,7 @@ impl FlatMemory {
         requires within { pa % 8 + size ≤ 8 }
         ensures memory { self.new ≡ (law.stored_to self.old pa size value spot).memory }
         ensures reply { result ≡ (law.stored_to self.old pa size value spot).reply }
+        ensures answer { IsStoreReply result }
     {
         match spot {
             Spot::Ram => {
@@ -150,6 +154,7 @@ impl FlatMemory {
     fn beat(&mut self) -> Reply
         ensures memory { self.new ≡ (law.beat_made self.old (due_beat self.old.devices.devices self.old.ram)).memory }
         ensures reply { result ≡ (law.beat_made self.old (due_beat self.old.devices.devices self.old.ram)).reply }
+        ensures answer { IsBeatReply result }
     {
         beat_reply(self.devices.beat(&mut self.ram))
     }

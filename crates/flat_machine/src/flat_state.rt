@@ -62,7 +62,7 @@ impl Flat {
     /// Makes one tick. After a halt it changes nothing, and answers the halt code again.
     #[tactic(auto, unfolding(crate::specs::FlatMachine::flat_tick_of))]
     pub fn tick(&mut self) -> Tick
-        requires { self.old.cpu.ticks < 4294967295 }
+        requires ticks { self.old.cpu.halt ≡ None → self.old.cpu.ticks < 4294967295 }
         ensures flat { self.new ≡ (flat_tick_of self.old).flat }
         ensures answer { result ≡ (flat_tick_of self.old).answer }
         ensures ticks { goes_on result ≡ true → self.new.cpu.ticks ≡ self.old.cpu.ticks + 1 }

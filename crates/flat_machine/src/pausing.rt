@@ -36,8 +36,9 @@ pub fn make_pause_tick<M: MemorySystem>(cpu: &mut Cpu, memory: &mut M)
 {
     let _ = memory.ask(Request::Inputs { tick: cpu.ticks });
     let _ = memory.ask(Request::Beat);
-    if let Reply::Levels(levels) = memory.ask(Request::Levels) {
-        cpu.cp0.lines(levels);
+    match memory.ask(Request::Levels) {
+        Reply::Levels(levels) => cpu.cp0.lines(levels),
+        _ => unreachable!(),
     }
     cpu.count(false);
 }

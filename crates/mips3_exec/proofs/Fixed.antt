@@ -112,12 +112,12 @@ module _ (value : ℕ) where
       let before : Cpu = linked cpu r.kind pa in
       elsewhere (record before { regs = with_register before.regs r.reg _ }) _ refl refl (set_fixed before r.reg _ (linked_fixed cpu r.kind pa fixed))
   loaded_fixed cpu inst r pa fixed reply.Coherency = taken_fixed cpu _ fixed
-  loaded_fixed cpu inst r pa fixed reply.Done = taken_fixed cpu _ fixed
-  loaded_fixed cpu inst r pa fixed (reply.Moved out at) = taken_fixed cpu _ fixed
-  loaded_fixed cpu inst r pa fixed (reply.Levels levels) = taken_fixed cpu _ fixed
-  loaded_fixed cpu inst r pa fixed reply.Stored = taken_fixed cpu _ fixed
-  loaded_fixed cpu inst r pa fixed (reply.Halt code) = taken_fixed cpu _ fixed
-  loaded_fixed cpu inst r pa fixed (reply.Tag tag) = taken_fixed cpu _ fixed
+  loaded_fixed cpu inst r pa fixed reply.Done = fixed
+  loaded_fixed cpu inst r pa fixed (reply.Moved out at) = fixed
+  loaded_fixed cpu inst r pa fixed (reply.Levels levels) = fixed
+  loaded_fixed cpu inst r pa fixed reply.Stored = fixed
+  loaded_fixed cpu inst r pa fixed (reply.Halt code) = fixed
+  loaded_fixed cpu inst r pa fixed (reply.Tag tag) = fixed
   loaded_fixed cpu inst r pa fixed reply.BusError = taken_fixed cpu _ fixed
 
   load_by_fixed : (cpu : Cpu) (inst : Inst) (r : Reference) → HasFixed value cpu → (route : Route) → KeepsTalk (load_by cpu inst r route)
@@ -141,11 +141,11 @@ module _ (value : ℕ) where
   stored_fixed cpu r fixed reply.Stored = elsewhere (succeeded cpu r.kind r.reg) _ refl refl (succeeded_fixed cpu r.kind r.reg fixed)
   stored_fixed cpu r fixed (reply.Halt code) = elsewhere (succeeded cpu r.kind r.reg) _ refl refl (succeeded_fixed cpu r.kind r.reg fixed)
   stored_fixed cpu r fixed reply.Coherency = taken_fixed cpu _ fixed
-  stored_fixed cpu r fixed (reply.Value bytes) = taken_fixed cpu _ fixed
-  stored_fixed cpu r fixed reply.Done = taken_fixed cpu _ fixed
-  stored_fixed cpu r fixed (reply.Moved out at) = taken_fixed cpu _ fixed
-  stored_fixed cpu r fixed (reply.Levels levels) = taken_fixed cpu _ fixed
-  stored_fixed cpu r fixed (reply.Tag tag) = taken_fixed cpu _ fixed
+  stored_fixed cpu r fixed (reply.Value bytes) = fixed
+  stored_fixed cpu r fixed reply.Done = fixed
+  stored_fixed cpu r fixed (reply.Moved out at) = fixed
+  stored_fixed cpu r fixed (reply.Levels levels) = fixed
+  stored_fixed cpu r fixed (reply.Tag tag) = fixed
   stored_fixed cpu r fixed reply.BusError = taken_fixed cpu _ fixed
 
   store_by_fixed : (cpu : Cpu) (inst : Inst) (r : Reference) → HasFixed value cpu → (route : Route) → KeepsTalk (store_by cpu inst r route)
@@ -161,14 +161,14 @@ module _ (value : ℕ) where
   operated_fixed : (cpu : Cpu) → HasFixed value cpu → (reply : Reply) → KeepsTalk (operated cpu reply)
   unfolding operated
   operated_fixed cpu fixed (reply.Tag tag) = of_parts cpu _ refl (kept.word_keeps cpu.cp0 28 tag (λ same. omega arith) (λ same. omega arith)) fixed
-  operated_fixed cpu fixed reply.Coherency = taken_fixed cpu _ fixed
-  operated_fixed cpu fixed (reply.Value bytes) = taken_fixed cpu _ fixed
-  operated_fixed cpu fixed reply.Done = taken_fixed cpu _ fixed
-  operated_fixed cpu fixed (reply.Moved out at) = taken_fixed cpu _ fixed
-  operated_fixed cpu fixed (reply.Levels levels) = taken_fixed cpu _ fixed
-  operated_fixed cpu fixed reply.Stored = taken_fixed cpu _ fixed
-  operated_fixed cpu fixed (reply.Halt code) = taken_fixed cpu _ fixed
-  operated_fixed cpu fixed reply.BusError = taken_fixed cpu _ fixed
+  operated_fixed cpu fixed reply.Coherency = fixed
+  operated_fixed cpu fixed (reply.Value bytes) = fixed
+  operated_fixed cpu fixed reply.Done = fixed
+  operated_fixed cpu fixed (reply.Moved out at) = fixed
+  operated_fixed cpu fixed (reply.Levels levels) = fixed
+  operated_fixed cpu fixed reply.Stored = fixed
+  operated_fixed cpu fixed (reply.Halt code) = fixed
+  operated_fixed cpu fixed reply.BusError = fixed
 
   operate_by_fixed : (cpu : Cpu) (r : Reference) → HasFixed value cpu → (route : Route) → KeepsTalk (operate_by cpu r route)
   operate_by_fixed cpu r fixed (To pa cached) = operated_fixed cpu fixed
@@ -264,7 +264,8 @@ module _ (value : ℕ) where
   fetched_fixed : (cpu : Cpu) → HasFixed value cpu → (reply : Reply) → KeepsTalk (fetched cpu reply)
   fetched_fixed cpu fixed (reply.Value code) = carried_fixed cpu code fixed
   fetched_fixed cpu fixed reply.Coherency = taken_fixed cpu _ fixed
-  fetched_fixed cpu fixed _ = taken_fixed cpu _ fixed
+  fetched_fixed cpu fixed reply.BusError = taken_fixed cpu _ fixed
+  fetched_fixed cpu fixed _ = fixed
 
   fetch_by_fixed : (cpu : Cpu) → HasFixed value cpu → (route : Route) → KeepsTalk (fetch_by cpu route)
   fetch_by_fixed cpu fixed (To pa cached) = fetched_fixed cpu fixed
@@ -290,14 +291,31 @@ module _ (value : ℕ) where
       let shown : Cpu = with_levels cpu levels in
       of_parts shown _ refl (kept.counted_keeps shown.cp0 _) (levels_fixed cpu fixed levels)
 
+  opened_fixed : (cpu : Cpu) → HasFixed value cpu → KeepsTalk (opened cpu)
+  opened_fixed cpu fixed inputs beat levels = step_fixed (with_levels cpu levels) (levels_fixed cpu fixed levels)
+
   talk_fixed : (cpu : Cpu) → HasFixed value cpu → KeepsTalk (tick_talk cpu)
   unfolding tick_talk
-  talk_fixed cpu fixed = then_fixed (opened cpu) closed closed_fixed (λ inputs beat levels. step_fixed (with_levels cpu levels) (levels_fixed cpu fixed levels))
+  talk_fixed cpu fixed = then_fixed (opened cpu) closed closed_fixed (opened_fixed cpu fixed)
+
+  -- the parts of a tick keep what is fixed
+  pub held_opened_fixed : {M : Type 0} (ask : M → Request → Outcome M) (memory : M) (cpu : Cpu) → HasFixed value cpu
+      → HasFixed value (hold ask memory (opened cpu)).cpu
+  held_opened_fixed ask memory cpu fixed = held_fixed ask memory (opened cpu) (opened_fixed cpu fixed)
+
+  pub held_closed_fixed : {M : Type 0} (ask : M → Request → Outcome M) (memory : M) (cpu : Cpu) (end : StepEnd) → HasFixed value cpu
+      → HasFixed value (hold ask memory (closed cpu end)).cpu
+  held_closed_fixed ask memory cpu end fixed = held_fixed ask memory (closed cpu end) (closed_fixed cpu end fixed)
+
+  -- and so does the talk of a tick
+  pub held_talk_fixed : {M : Type 0} (ask : M → Request → Outcome M) (memory : M) (cpu : Cpu) → HasFixed value cpu
+      → HasFixed value (hold ask memory (tick_talk cpu)).cpu
+  held_talk_fixed ask memory cpu fixed = held_fixed ask memory (tick_talk cpu) (talk_fixed cpu fixed)
 
   ticked_fixed : {M : Type 0} (ask : M → Request → Outcome M) (memory : M) (cpu : Cpu) → HasFixed value cpu → (halt : Option ℕ)
       → HasFixed value (unless_halted ask memory cpu halt).cpu
   ticked_fixed ask memory cpu fixed (Some code) = fixed
-  ticked_fixed ask memory cpu fixed None = held_fixed ask memory (tick_talk cpu) (talk_fixed cpu fixed)
+  ticked_fixed ask memory cpu fixed None = held_talk_fixed ask memory cpu fixed
 
   -- a tick keeps what is fixed
   pub tick_fixed : {M : Type 0} (ask : M → Request → Outcome M) (memory : M) (cpu : Cpu) → HasFixed value cpu → HasFixed value (tick_of ask memory cpu).cpu

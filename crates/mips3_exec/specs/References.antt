@@ -20,7 +20,7 @@ use Rattle.mips3_exec.specs.declared.references.Reference.{Reference}
 use Rattle.mips3_exec.specs.declared.talk.Access.{Access}
 use Rattle.mips3_exec.specs.declared.talk.StepEnd.TheVariants.{Went, Trapped}
 use Rattle.mips3_exec.specs.declared.talk.Reply.{Reply}
-use Rattle.mips3_exec.specs.declared.talk.Reply.TheVariants.{Value, Stored, Halt, Tag, Coherency}
+use Rattle.mips3_exec.specs.declared.talk.Reply.TheVariants.{Value, Stored, Halt, Tag, BusError, Coherency}
 use Rattle.mips3_exec.specs.declared.talk.Request.TheVariants as request
 use Rattle.mips3_exec.specs.Accesses.{is_aligned}
 use Rattle.mips3_exec.specs.Effects.{operation_of, loaded_of, stored_of}
@@ -35,6 +35,10 @@ went cpu = Done cpu Went
 abbrev pub trapped : Cpu → Raised → Talk
 trapped cpu what = Done (taken cpu what) (Trapped what.code)
 
+-- what is said of a reply that the request may not have: the processor stays as it is. No memory system gives such a reply.
+abbrev pub unanswered : Cpu → Talk
+unanswered cpu = went cpu
+
 -- ---- loads
 
 -- a load linked sets the link, and shows the physical address in LLAddr
@@ -47,7 +51,8 @@ unfoldable pub loaded : Cpu → Inst → Reference → ℕ → Reply → Talk
 loaded cpu inst r pa (Value bytes) =
     went (with_result (linked cpu r.kind pa) r.reg (loaded_of inst (register cpu.regs r.reg) r.va bytes))
 loaded cpu inst r pa Coherency = trapped cpu (at_address codes.coherency_data r.va)
-loaded cpu inst r pa _ = trapped cpu (plain codes.bus_data)
+loaded cpu inst r pa BusError = trapped cpu (plain codes.bus_data)
+loaded cpu inst r pa _ = unanswered cpu
 
 abbrev pub load_from : Cpu → Inst → Reference → Access → Talk
 load_from cpu inst r access = Ask (request.Load access r.size) (loaded cpu inst r access.pa)
@@ -74,7 +79,8 @@ unfoldable pub stored : Cpu → Reference → Reply → Talk
 stored cpu r Stored = went (advanced (succeeded cpu r.kind r.reg))
 stored cpu r (Halt code) = went (advanced (record (succeeded cpu r.kind r.reg) { halt = Some code }))
 stored cpu r Coherency = trapped cpu (at_address codes.coherency_data r.va)
-stored cpu r _ = trapped cpu (plain codes.bus_data)
+stored cpu r BusError = trapped cpu (plain codes.bus_data)
+stored cpu r _ = unanswered cpu
 
 -- a store conditional without the link
 abbrev pub gives_up : Cpu → Touch → Bool
@@ -100,7 +106,7 @@ store cpu inst r =
 -- how a cache operation goes on: TagLo is what it makes of it
 unfoldable pub operated : Cpu → Reply → Talk
 operated cpu (Tag tag) = went (advanced (record cpu { cp0 = with_word cpu.cp0 tag_lo tag }))
-operated cpu _ = trapped cpu (plain codes.bus_data)
+operated cpu _ = unanswered cpu
 
 abbrev pub operate_by : Cpu → Reference → Route → Talk
 operate_by cpu r (To pa cached) = Ask (request.Cache (access_of cpu r.va pa cached) r.reg (word cpu.cp0 tag_lo)) (operated cpu)

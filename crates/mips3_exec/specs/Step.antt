@@ -19,12 +19,12 @@ use Rattle.mips3_exec.specs.declared.effects.Effect.TheVariants.{Nothing, Set, H
 use Rattle.mips3_exec.specs.declared.routes.Route.{Route}
 use Rattle.mips3_exec.specs.declared.routes.Route.TheVariants.{To, Fault}
 use Rattle.mips3_exec.specs.declared.talk.Reply.{Reply}
-use Rattle.mips3_exec.specs.declared.talk.Reply.TheVariants.{Value, Coherency}
+use Rattle.mips3_exec.specs.declared.talk.Reply.TheVariants.{Value, BusError, Coherency}
 use Rattle.mips3_exec.specs.declared.talk.Request.TheVariants as request
 use Rattle.mips3_exec.specs.Effects.{operation_of, effect_of}
 use Rattle.mips3_exec.specs.Processor.{advanced, with_result, branched}
 use Rattle.mips3_exec.specs.Routes.{plain, at_address, address_error, route_of, access_of}
-use Rattle.mips3_exec.specs.References.{went, trapped, refer}
+use Rattle.mips3_exec.specs.References.{went, trapped, unanswered, refer}
 use Rattle.mips3_exec.specs.SystemControl.{controlled, control_end, is_privileged}
 use Rattle.mips3_exec.specs.Talk.{Talk, Done, Ask}
 
@@ -71,7 +71,8 @@ carry_out cpu code = carry_out_found cpu (decoded code)
 abbrev pub fetched : Cpu → Reply → Talk
 fetched cpu (Value code) = carry_out cpu code
 fetched cpu Coherency = trapped cpu (at_address codes.coherency_fetch cpu.pc)
-fetched cpu _ = trapped cpu (plain codes.bus_fetch)
+fetched cpu BusError = trapped cpu (plain codes.bus_fetch)
+fetched cpu _ = unanswered cpu
 
 abbrev pub fetch_by : Cpu → Route → Talk
 fetch_by cpu (To pa cached) = Ask (request.Fetch (access_of cpu cpu.pc pa cached)) (fetched cpu)

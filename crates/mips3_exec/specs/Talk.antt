@@ -56,9 +56,50 @@ is_asked (Cache access code tag) = is_access access 1 && nat_lt code 32
 pub record IsAsked (request : Request) : Type 0 where
   pub is : is_asked request ≡ true
 
--- a reply that a request may have: its numbers are in range
+-- ---- the replies that each kind of request may have
+
+-- the inputs are applied
+abbrev pub IsInputsReply : Reply → Type 0
+IsInputsReply reply.Done = Unit {0}
+IsInputsReply _ = ⊥
+
+-- a beat is made, or none is due
+abbrev pub IsBeatReply : Reply → Type 0
+IsBeatReply reply.Done = Unit {0}
+IsBeatReply (reply.Moved out pa) = Unit {0}
+IsBeatReply _ = ⊥
+
+-- the levels of five lines
+abbrev pub IsLevelsReply : Reply → Type 0
+IsLevelsReply (reply.Levels levels) = levels < 32
+IsLevelsReply _ = ⊥
+
+-- a fetch or a load: a value below a bound, or an exception of memory
+abbrev pub IsReadReply : ℕ → Reply → Type 0
+IsReadReply bound (reply.Value value) = value < bound
+IsReadReply bound reply.BusError = Unit {0}
+IsReadReply bound reply.Coherency = Unit {0}
+IsReadReply bound _ = ⊥
+
+-- a store: it was made, as the last one of the run too, or an exception of memory
+abbrev pub IsStoreReply : Reply → Type 0
+IsStoreReply reply.Stored = Unit {0}
+IsStoreReply (reply.Halt code) = Unit {0}
+IsStoreReply reply.BusError = Unit {0}
+IsStoreReply reply.Coherency = Unit {0}
+IsStoreReply _ = ⊥
+
+-- a cache operation: the value of TagLo. Memory makes no exception of it.
+abbrev pub IsCacheReply : Reply → Type 0
+IsCacheReply (reply.Tag tag) = Unit {0}
+IsCacheReply _ = ⊥
+
+-- a reply that a request may have: it is of a kind that answers the request, and its numbers are in range
 abbrev pub IsAnswer : Request → Reply → Type 0
-IsAnswer Levels (reply.Levels levels) = levels < 32
-IsAnswer (Fetch access) (reply.Value value) = value < 2 ^ 32
-IsAnswer (Load access size) (reply.Value value) = value < 256 ^ size
-IsAnswer _ _ = Unit {0}
+IsAnswer (Inputs tick) answer = IsInputsReply answer
+IsAnswer Beat answer = IsBeatReply answer
+IsAnswer Levels answer = IsLevelsReply answer
+IsAnswer (Fetch access) answer = IsReadReply (2 ^ 32) answer
+IsAnswer (Load access size) answer = IsReadReply (256 ^ size) answer
+IsAnswer (Store access size value) answer = IsStoreReply answer
+IsAnswer (Cache access code tag) answer = IsCacheReply answer

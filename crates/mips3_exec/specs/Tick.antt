@@ -16,7 +16,7 @@ use Rattle.mips3_exec.specs.Processor.{counted}
 use Rattle.mips3_exec.specs.Talk.{Talk, Done, Ask, Outcome, Held, hold, and_then}
 use Rattle.mips3_exec.specs.Step.{step}
 
--- Cause shows the levels of the lines
+-- Cause shows the levels of the lines; no memory system replies anything else
 abbrev pub with_levels : Cpu → Reply → Cpu
 with_levels cpu (reply.Levels levels) = record cpu { cp0 = with_lines cpu.cp0 levels }
 with_levels cpu _ = cpu

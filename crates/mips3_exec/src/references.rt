@@ -88,7 +88,8 @@ fn load_from<M: MemorySystem>(
             StepEnd::Went
         }
         Reply::Coherency => trap(cpu, at_address(COHERENCY_DATA, r.va)),
-        _ => trap(cpu, plain(BUS_DATA)),
+        Reply::BusError => trap(cpu, plain(BUS_DATA)),
+        _ => unreachable!(),
     }
 }
 
@@ -182,7 +183,8 @@ fn store_to<M: MemorySystem>(
             succeed(cpu, r)
         }
         Reply::Coherency => trap(cpu, at_address(COHERENCY_DATA, r.va)),
-        _ => trap(cpu, plain(BUS_DATA)),
+        Reply::BusError => trap(cpu, plain(BUS_DATA)),
+        _ => unreachable!(),
     }
 }
 
@@ -240,7 +242,7 @@ fn operate<M: MemorySystem>(cpu: &mut Cpu, memory: &mut M, r: Reference) -> Step
                     cpu.advance();
                     StepEnd::Went
                 }
-                _ => trap(cpu, plain(BUS_DATA)),
+                _ => unreachable!(),
             }
         }
     }

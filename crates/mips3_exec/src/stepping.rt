@@ -143,7 +143,8 @@ fn fetch<M: MemorySystem>(cpu: &mut Cpu, memory: &mut M) -> StepEnd
             match memory.ask(Request::Fetch { access }) {
                 Reply::Value(word) => carry_out(cpu, memory, word as u32),
                 Reply::Coherency => trap(cpu, at_address(COHERENCY_FETCH, pc)),
-                _ => trap(cpu, plain(BUS_FETCH)),
+                Reply::BusError => trap(cpu, plain(BUS_FETCH)),
+                _ => unreachable!(),
             }
         }
     }

@@ -1,8 +1,9 @@
 //! The tick and the run over any memory system.
 
-ghost use Rattle.std.specs.Prelude.{◌≡◌, ℕ, ◌<◌, ◌+◌, ◌^◌, Some, true};
+ghost use Rattle.std.specs.Prelude.{◌≡◌, ℕ, ◌<◌, ◌+◌, ◌^◌, Some, None, true};
 ghost use Rattle.mips3_exec.specs.declared.talk.Request.TheVariants.{Levels};
 ghost use Rattle.mips3_exec.specs.declared.ticking.Tick.TheVariants.{Halted};
+ghost use Rattle.mips3_exec.specs.Fixed.{HasFixed};
 ghost use Rattle.mips3_exec.specs.Run.{run_of};
 ghost use Rattle.mips3_exec.specs.Talk.{hold};
 ghost use Rattle.mips3_exec.specs.Tick as law;
@@ -28,8 +29,9 @@ fn ask_levels<M: MemorySystem>(cpu: &mut Cpu, memory: &mut M)
     ensures memory { memory.new ≡ (M.ask_gives memory.old Request.Levels).memory }
     ensures ticks { cpu.new.ticks ≡ cpu.old.ticks }
 {
-    if let Reply::Levels(levels) = memory.ask(Request::Levels) {
-        cpu.cp0.lines(levels);
+    match memory.ask(Request::Levels) {
+        Reply::Levels(levels) => cpu.cp0.lines(levels),
+        _ => unreachable!(),
     }
 }
 
@@ -75,6 +77,7 @@ fn talk<M: MemorySystem>(cpu: &mut Cpu, memory: &mut M) -> StepEnd
     ensures cpu { cpu.new ≡ (hold M.ask_gives memory.old (law.tick_talk cpu.old)).cpu }
     ensures memory { memory.new ≡ (hold M.ask_gives memory.old (law.tick_talk cpu.old)).memory }
     ensures ticks { cpu.new.ticks ≡ cpu.old.ticks + 1 }
+    ensures fixed { (config : ℕ) → HasFixed config cpu.old → HasFixed config cpu.new }
 {
     let end = open(cpu, memory);
     close(cpu, memory, end);
@@ -85,13 +88,14 @@ fn talk<M: MemorySystem>(cpu: &mut Cpu, memory: &mut M) -> StepEnd
 #[inline(always)]
 #[tactic(auto, unfolding(crate::specs::Tick::tick_of))]
 pub fn make_tick<M: MemorySystem>(cpu: &mut Cpu, memory: &mut M) -> Tick
-    requires { cpu.old.ticks < 4294967295 }
+    requires ticks { cpu.old.halt ≡ None → cpu.old.ticks < 4294967295 }
     ensures answer { result ≡ (law.tick_of M.ask_gives memory.old cpu.old).answer }
     ensures cpu { cpu.new ≡ (law.tick_of M.ask_gives memory.old cpu.old).cpu }
     ensures memory { memory.new ≡ (law.tick_of M.ask_gives memory.old cpu.old).memory }
     ensures ticks { law.goes_on result ≡ true → cpu.new.ticks ≡ cpu.old.ticks + 1 }
     ensures stands_still { (code : ℕ) → cpu.old.halt ≡ Some code →
         (cpu.new ≡ cpu.old) × (memory.new ≡ memory.old) × (result ≡ Tick.Halted code) }
+    ensures fixed { (config : ℕ) → HasFixed config cpu.old → HasFixed config cpu.new }
 {
     if let Some(code) = cpu.halt {
         return Tick::Halted(code);
@@ -111,6 +115,7 @@ pub fn make_run<M: MemorySystem>(cpu: &mut Cpu, memory: &mut M, steps: u32) -> T
     ensures answer { result ≡ (run_of M.ask_gives steps (record { cpu = cpu.old; memory = memory.old })).answer }
     ensures cpu { cpu.new ≡ (run_of M.ask_gives steps (record { cpu = cpu.old; memory = memory.old })).cpu }
     ensures memory { memory.new ≡ (run_of M.ask_gives steps (record { cpu = cpu.old; memory = memory.old })).memory }
+    ensures fixed { (config : ℕ) → HasFixed config cpu.old → HasFixed config cpu.new }
 {
     for step in 0..steps {
         match make_tick(cpu, memory) {

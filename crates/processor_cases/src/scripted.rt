@@ -1,9 +1,8 @@
 //! The memory system of a case: it gives the replies that the case names, whatever the address, and keeps what it was asked.
 
 ghost use Rattle.std.specs.Prelude.{◌≡◌, ◌≤◌, ◌<◌, ◌%◌, ◌^◌};
-ghost use Rattle.mips3_exec.specs.declared.talk.Reply.TheVariants as reply;
+ghost use Rattle.mips3_exec.specs.Talk.{IsReadReply, IsStoreReply};
 ghost use Rattle.processor_cases.specs.Scripted as law;
-ghost use Rattle.processor_cases.specs.Scripted.{IsReplyOf, IsWordReply};
 
 use mips3_exec::{Access, MemorySystem, Reply, Request};
 
@@ -16,7 +15,7 @@ pub enum Manner {
     Refuses,
     /// With a coherency exception.
     Surprises,
-    /// With the end of the run, by this halt code.
+    /// A store with the end of the run, by this halt code; a fetch or a load with its bytes.
     Ends(u32),
 }
 
@@ -58,14 +57,13 @@ fn low_bytes(number: u64, size: u8) -> u64
 impl Scripted {
     // The reply to a fetch.
     fn fetch(&self) -> Reply
-        ensures reply { result ≡ law.in_manner self.now.fetching (reply.Value self.now.word) }
-        ensures answer { IsWordReply result }
+        ensures reply { result ≡ law.read_in self.now.fetching self.now.word }
+        ensures answer { IsReadReply (2 ^ 32) result }
     {
         match self.fetching {
-            Manner::Serves => Reply::Value(u64::from(self.word)),
+            Manner::Serves | Manner::Ends(_) => Reply::Value(u64::from(self.word)),
             Manner::Refuses => Reply::BusError,
             Manner::Surprises => Reply::Coherency,
-            Manner::Ends(code) => Reply::Halt(code),
         }
     }
 
@@ -73,23 +71,23 @@ impl Scripted {
     fn load(&self, size: u8) -> Reply
         requires some { 1 ≤ size }
         requires most { size ≤ 8 }
-        ensures reply { result ≡ law.in_manner self.now.touching (reply.Value (self.now.bytes % 256 ^ size)) }
-        ensures answer { IsReplyOf size result }
+        ensures reply { result ≡ law.read_in self.now.touching (self.now.bytes % 256 ^ size) }
+        ensures answer { IsReadReply (256 ^ size) result }
     {
         match self.touching {
-            Manner::Serves => Reply::Value(low_bytes(self.bytes, size)),
+            Manner::Serves | Manner::Ends(_) => Reply::Value(low_bytes(self.bytes, size)),
             Manner::Refuses => Reply::BusError,
             Manner::Surprises => Reply::Coherency,
-            Manner::Ends(code) => Reply::Halt(code),
         }
     }
 
-    // Another reply, in the manner of an access to data.
-    fn otherwise(&self, answer: Reply) -> Reply
-        ensures reply { result ≡ law.in_manner self.now.touching answer }
+    // The reply to a store.
+    fn store(&self) -> Reply
+        ensures reply { result ≡ law.stored_in self.now.touching }
+        ensures answer { IsStoreReply result }
     {
         match self.touching {
-            Manner::Serves => answer,
+            Manner::Serves => Reply::Stored,
             Manner::Refuses => Reply::BusError,
             Manner::Surprises => Reply::Coherency,
             Manner::Ends(code) => Reply::Halt(code),
@@ -117,11 +115,11 @@ impl MemorySystem for Scripted {
             }
             Request::Store { .. } => {
                 self.touched = Some(request);
-                self.otherwise(Reply::Stored)
+                self.store()
             }
             Request::Cache { tag, .. } => {
                 self.touched = Some(request);
-                self.otherwise(Reply::Tag(tag))
+                Reply::Tag(tag)
             }
         }
     }

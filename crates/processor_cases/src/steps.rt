@@ -266,7 +266,7 @@ fn put_tick(
 // Whether a word was fetched.
 fn is_fetched(memory: &Scripted) -> bool {
     match memory.fetching {
-        Manner::Serves => memory.fetched.is_some(),
+        Manner::Serves | Manner::Ends(_) => memory.fetched.is_some(),
         _ => false,
     }
 }

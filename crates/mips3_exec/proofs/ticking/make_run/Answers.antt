@@ -34,7 +34,7 @@ loop-step-preserved g c =
     let more = runs_from g.M.MemorySystem.ask_gives (c.args.steps - c.loop-step.step) (c.args.steps - (c.loop-step.step + 1)) _ _ _ _ _
     (record { cpu_is = c.make_tick.ensures.cpu; memory_is = c.make_tick.ensures.memory; answer_is = c.make_tick.ensures.answer })
     (omega (arith, c.loop-step-test.true)) on in
-    (sym more ∙ c.loop-step.invariant.0, omega (arith, ticks, c.loop-step.invariant.1))
+    (sym more ∙ c.loop-step.invariant.0, omega (arith, ticks, c.loop-step.invariant.1), λ config fixed. c.make_tick.ensures.fixed config (c.loop-step.invariant.2 config fixed))
 
 pub returns-clause-answer : goal.returns-clause-answer
 returns-clause-answer g c =
@@ -50,3 +50,9 @@ pub returns-clause-memory : goal.returns-clause-memory
 returns-clause-memory g c =
     same_memory _ _
     (sym (run_none g.M.MemorySystem.ask_gives (c.args.steps - c.loop-step.step) _ (omega (arith, c.loop-step-test.false))) ∙ c.loop-step.invariant.0)
+
+pub returns-in_default-clause-fixed : goal.returns-in_default-clause-fixed
+returns-in_default-clause-fixed g c = λ config fixed. c.make_tick.ensures.fixed config (c.loop-step.invariant.2 config fixed)
+
+pub returns-clause-fixed : goal.returns-clause-fixed
+returns-clause-fixed g c = c.loop-step.invariant.2
