@@ -1,6 +1,7 @@
 //! A machine and the judge of its events.
 
-ghost use Rattle.std.specs.Prelude.{◌≡◌, ◌+◌, ◌<◌, ◌≤◌, ◌^◌, ◌↔◌, length, IfOk, IfSome, IsNone, ℕ, Some, None, false};
+ghost use Rattle.std.specs.Prelude.{◌≡◌, ◌+◌, ◌<◌, ◌≤◌, ◌^◌, ◌↔◌, ℕ, Some, None, false, length};
+ghost use Rattle.std.specs.Prelude.{IfOk, IfSome, IsNone};
 ghost use Rattle.access_trace.specs.Grammar.{IsEvent};
 ghost use Rattle.access_trace.specs.declared.event.Verdict.TheVariants.{Yes};
 ghost use Rattle.dma_devices.specs.DiskCommands.{largest_disk};

@@ -1,6 +1,7 @@
 //! The slots of the holders.
 
-ghost use Rattle.std.specs.Prelude.{◌≡◌, ◌⊎◌, ◌+◌, ◌<◌, ◌≤◌, ◌^◌, ℕ, true, false, Some, None, IsSome, IfOk, length, replicate, take, slice_index};
+ghost use Rattle.std.specs.Prelude.{◌≡◌, ◌⊎◌, ◌+◌, ◌<◌, ◌≤◌, ◌^◌, ℕ, true, false, Some, None, IsSome, IfOk};
+ghost use Rattle.std.specs.Prelude.{length, replicate, take, slice_index};
 ghost use Rattle.std.specs.Option.{option_map};
 ghost use Rattle.line_arena.specs.Holding as law;
 ghost use Rattle.line_arena.specs.Holding.{IsFree, IsHolding, bytes_of, is_owner, is_shared, left, slot_of, with_slot};
