@@ -1,6 +1,8 @@
 -- What stands at each place of a statement after its name: the token that is expected there beside the one that the
 -- line has. What is read from such a line depends on the kinds and the texts of its tokens alone.
-use Rattle.std.proofs.Common.{◌≡◌, ℕ, suc, Bool, true, false, not, ◌&&◌, ◌||◌, if◌then◌else◌, List, [], ◌∷◌, length, Option, Some, None, option_and_then, refl, ap, sym, ◌∙◌, Ok, Err}
+use Rattle.std.proofs.Common.{◌≡◌, ℕ, suc, Bool, true, false, not, ◌&&◌, ◌||◌, if◌then◌else◌, List, [], ◌∷◌, length, Option, Some, None, option_and_then, refl, ap, ap₂, sym, ◌∙◌, Ok, Err}
+use Rattle.std.specs.List.{list_all, zip}
+use Rattle.std.proofs.lemmas.Bool.{eq-eqb}
 use Rattle.mips3_table.specs.declared.instruction.Inst.{Inst}
 use Rattle.mips3_table.specs.Rows.{row_at}
 use Rattle.mips_text.specs.declared.reason.AsmWhy.TheVariants as why
@@ -61,13 +63,18 @@ none_unknown line (one ∷ places) (token ∷ tokens) spells agree =
     ap (λ b. b || some_unknown line (expected_at places) tokens) (spelled_test (names_no_register one.expected) line token one.kind one.text false spells.0 spells.1 agree.0.known)
     ∙ none_unknown line places tokens spells.2 agree.1
 
-all_of_kind : (line : List ℕ) (places : List Place) (tokens : List Token) → Spells line tokens (pieces_at places) → AllAgree places → all_agree line (expected_at places) tokens ≡ true
-all_of_kind line [] [] spells agree = refl
-all_of_kind line [] (token ∷ tokens) spells agree = absurd spells
-all_of_kind line (one ∷ places) [] spells agree = absurd spells
-all_of_kind line (one ∷ places) (token ∷ tokens) spells agree =
-    ap (λ b. b && all_agree line (expected_at places) tokens) (spelled_test (has_kind one.expected) line token one.kind one.text true spells.0 spells.1 agree.0.kind)
-    ∙ all_of_kind line places tokens spells.2 agree.1
+kinds_agree : (line : List ℕ) (places : List Place) (tokens : List Token) → Spells line tokens (pieces_at places) → AllAgree places
+    → list_all (λ place. has_kind place.0 place.1.kind (token_text line place.1)) (zip (expected_at places) tokens) ≡ true
+kinds_agree line [] tokens spells agree = refl
+kinds_agree line (one ∷ places) [] spells agree = absurd spells
+kinds_agree line (one ∷ places) (token ∷ tokens) spells agree =
+    ap (λ b. b && list_all (λ place. has_kind place.0 place.1.kind (token_text line place.1)) (zip (expected_at places) tokens))
+    (spelled_test (has_kind one.expected) line token one.kind one.text true spells.0 spells.1 agree.0.kind)
+    ∙ kinds_agree line places tokens spells.2 agree.1
+
+length_expected : (places : List Place) → length (expected_at places) ≡ length places
+length_expected [] = refl
+length_expected (one ∷ places) = ap suc (length_expected places)
 
 all_within : (line : List ℕ) (places : List Place) (tokens : List Token) → Spells line tokens (pieces_at places) → AllAgree places → all_in_range line (expected_at places) tokens ≡ true
 all_within line [] tokens spells agree = refl
@@ -81,6 +88,11 @@ length_spelled line [] [] spells = refl
 length_spelled line [] (token ∷ tokens) spells = absurd spells
 length_spelled line (one ∷ places) [] spells = absurd spells
 length_spelled line (one ∷ places) (token ∷ tokens) spells = ap suc (length_spelled line places tokens spells.2)
+
+all_of_kind : (line : List ℕ) (places : List Place) (tokens : List Token) → Spells line tokens (pieces_at places) → AllAgree places → all_agree line (expected_at places) tokens ≡ true
+all_of_kind line places tokens spells agree =
+    ap₂ (λ b c. b && c) (eq-eqb (length tokens) (length (expected_at places)) (length_spelled line places tokens spells ∙ sym (length_expected places)))
+    (kinds_agree line places tokens spells agree)
 
 -- so these tokens are the operands of a shape that expects them
 no_fault : (line : List ℕ) (shape : Shape) (places : List Place) (tokens : List Token) → Spells line tokens (pieces_at places) → tokens_expected shape (length places) ≡ expected_at places → AllAgree places →

@@ -3,7 +3,8 @@
 -- Source: the assembler language of this project, whose statements are the instruction formats of the MIPS R4000
 -- Microprocessor User's Manual, 2nd edition (Heinrich), appendix A, with a part of the further statements and of the
 -- directives of the MIPS assembler.
-use Rattle.std.specs.Prelude.{codes, unwrap_or, ℕ, ℤ, pos, negsuc, zero, suc, ◌/◌, ◌==◌, nat_lt, nat_le, Bool, true, false, not, ◌&&◌, ◌||◌, if◌then◌else◌, List, [], ◌∷◌, length, slice_index, slice_get, Option, Some, None, option_map, option_and_then, Result, Ok, Err}
+use Rattle.std.specs.Prelude.{codes, unwrap_or, ℕ, ℤ, pos, negsuc, zero, suc, ◌/◌, ◌==◌, nat_lt, nat_le, Bool, true, false, not, ◌&&◌, if◌then◌else◌, List, [], ◌∷◌, length, slice_index, slice_get, Option, Some, None, option_map, option_and_then, Result, Ok, Err}
+use Rattle.std.specs.List.{list_all, list_any, zip}
 use Rattle.mips3_table.specs.declared.instruction.Inst.{Inst}
 use Rattle.mips3_table.specs.Rows.{row_at}
 use Rattle.mips3_table.specs.Matching.{row_named}
@@ -51,25 +52,16 @@ tokens_expected (Numbers range) count = numbers_expected (count / 2) range
 
 -- somewhere a Name stands at a register's place and is none
 abbrev pub some_unknown : List ℕ → List Expected → List Token → Bool
-some_unknown line [] tokens = false
-some_unknown line (one ∷ expected) [] = false
-some_unknown line (one ∷ expected) (token ∷ tokens) =
-    names_no_register one token.kind (token_text line token) || some_unknown line expected tokens
+some_unknown line expected tokens = list_any (λ place. names_no_register place.0 place.1.kind (token_text line place.1)) (zip expected tokens)
 
 -- there are as many tokens as are expected, each of its kind
 abbrev pub all_agree : List ℕ → List Expected → List Token → Bool
-all_agree line [] [] = true
-all_agree line [] (token ∷ tokens) = false
-all_agree line (one ∷ expected) [] = false
-all_agree line (one ∷ expected) (token ∷ tokens) =
-    has_kind one token.kind (token_text line token) && all_agree line expected tokens
+all_agree line expected tokens =
+    (length tokens == length expected) && list_all (λ place. has_kind place.0 place.1.kind (token_text line place.1)) (zip expected tokens)
 
 -- each number lies in its range
 abbrev pub all_in_range : List ℕ → List Expected → List Token → Bool
-all_in_range line [] tokens = true
-all_in_range line (one ∷ expected) [] = true
-all_in_range line (one ∷ expected) (token ∷ tokens) =
-    has_range one token.kind (token_text line token) && all_in_range line expected tokens
+all_in_range line expected tokens = list_all (λ place. has_range place.0 place.1.kind (token_text line place.1)) (zip expected tokens)
 
 -- the first reason for which these tokens are not the operands of a shape
 unfoldable pub operands_fault : List ℕ → Shape → List Token → Option AsmWhy
